@@ -1,0 +1,14 @@
+-- What `board` means, in the order of document 01: read Sizes, Sets, Answers, Board, Holds, Accepted,
+-- File, Load, Table, EntryPoints.
+-- `Lists` has the few functions on lists that these lean on.
+pub mod Lists
+pub mod Sizes
+pub mod Sets
+pub mod Answers
+pub mod Board
+pub mod Holds
+pub mod Accepted
+pub mod File
+pub mod Load
+pub mod Table
+pub mod EntryPoints
