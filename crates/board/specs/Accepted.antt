@@ -1,5 +1,7 @@
 -- Which boards are accepted, sentence by sentence: document 01, "Board tables and board states". This is what a reader may rely on of a loaded
 -- table; `Load` says the same file by file, refusal by refusal, and a law says that every loaded board is accepted. Assumes nothing.
+pub mod Distinct
+pub mod Laws
 use Prim.Native.Nat.{ℕ, suc}
 use mathlib.Core.Bool.{Bool, true, false, not, _&&_}
 use mathlib.Core.List.{List, [], _∷_, map}

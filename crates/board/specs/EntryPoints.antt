@@ -1,7 +1,9 @@
 -- The entry points of `board`, as the contracts cite them: what each gives, and for each answer that is an enum of the code the paper's number
 -- and values of its cases. Document 01: "A refused load returns the table whose every field is zero. .. A refused yes-or-no or share returns its
 -- number alone." Assumes nothing.
+pub mod Laws
 use Prim.Native.Nat.{ℕ}
+use mathlib.Core.Path.{_≡_}
 use mathlib.Core.Bool.{Bool, true, false, not, cond}
 use mathlib.Core.List.{List, [], _∷_}
 use lib.Dec.{leb}
@@ -11,7 +13,7 @@ use Rattle.board.specs.Board.{Board, declarations, isStateOf}
 use Rattle.board.specs.Holds.{holds, inState}
 use Rattle.board.specs.File as file
 use Rattle.board.specs.File.{Found, lowBytes}
-use Rattle.board.specs.Table.{boardOf, isTable}
+use Rattle.board.specs.Table.{boardOf, tableIn, zeroTable, isTable}
 use Rattle.board.specs.declared.Table.{Table}
 use Rattle.board.specs.declared.record.Record.{Record}
 use Rattle.board.specs.declared.record.Record.the-variants.{Count, Hypothesis, Rule, End}
@@ -19,6 +21,7 @@ use Rattle.board.specs.declared.record.Read.{Read}
 use Rattle.board.specs.declared.record.Read.the-variants as read
 use Rattle.board.specs.declared.Loaded.{Loaded}
 use Rattle.board.specs.declared.Loaded.the-variants as loaded
+use Rattle.board.specs.declared.Loading.{Loading}
 use Rattle.board.specs.declared.Told.{Told}
 use Rattle.board.specs.declared.Told.the-variants as told
 
@@ -45,6 +48,16 @@ outcomeOf (refusedAt number place) = refusedAt number place
 unfoldable pub loadedMeans : Loaded → FileAnswer Unit
 loadedMeans loaded.Accepted = accepted tt
 loadedMeans (loaded.Refused number place) = refusedAt number place
+
+-- what loading hands back: the answer, and the table beside it
+pub record LoadsAs (answer : FileAnswer Board) (r : Loading) : Type 0 where
+  pub answers : loadedMeans (r .answer) ≡ outcomeOf answer
+  pub table : r .table ≡ tableIn answer
+
+-- the same of a refusal
+pub record Refuses (r : Loading) (number place : ℕ) : Type 0 where
+  pub answers : loadedMeans (r .answer) ≡ refusedAt number place
+  pub table : r .table ≡ zeroTable
 
 -- ---- the yes-or-no
 

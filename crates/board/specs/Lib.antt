@@ -11,4 +11,5 @@ pub mod Accepted
 pub mod File
 pub mod Load
 pub mod Table
+pub mod Lent
 pub mod EntryPoints

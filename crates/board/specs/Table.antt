@@ -2,7 +2,13 @@
 -- one array a field, with a count beside them; unused room is zero, and an empty body place of a rule is 255 as in the file.
 -- Refusal 20 is for "a table handed in that no file loads to": one for which there is no `Loads` below. `isTable` is the test that the entry points
 -- cite: the table, written out as a file, loads to itself. Assumes nothing.
+pub mod Arrays
+pub mod Bounds
+pub mod Laws
 pub mod Passes
+pub mod Standing
+pub mod Taking
+pub mod Written
 use Prim.Native.Nat.{ℕ, _*_}
 use mathlib.Core.Path.{_≡_}
 use mathlib.Core.Bool.{Bool, true, false, _&&_}

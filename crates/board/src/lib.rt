@@ -5,7 +5,12 @@
 ghost use mathlib.Core.Path.{_≡_};
 ghost use Rattle.board.specs.Table.{zeroTable};
 
+mod checks;
+mod holding;
+pub mod load;
+mod places;
 pub mod record;
+mod weights;
 
 // A board: the hypotheses and the rules in the order of the file, one array a field. Room past a count is zero.
 pub struct Table {

@@ -18,6 +18,12 @@ pub lowBytes-push : (k n b : ℕ) → b < 256 → lowBytes (suc k) (n * 256 + b)
 unfolding lowBytes
 lowBytes-push k n b h = ap₂ (λ (x y : ℕ). x ∷ lowBytes k y) (digits-mod n h) (digits-div n h)
 
+-- the lowest byte of a number, and those above it
+pub lowBytes-pop : (k n : ℕ) → zero < k → lowBytes k n ≡ n % 256 ∷ lowBytes (k - 1) (n / 256)
+unfolding lowBytes
+lowBytes-pop zero n h = let no : ⊥ = omega arith in absurd no
+lowBytes-pop (suc k) n h = let e : suc k - 1 ≡ k = omega arith in rw e
+
 -- one more byte in front of a run of bytes
 pub take-drop-cons : (k j : ℕ) (xs : List ℕ) → j < length xs → take (suc k) (drop j xs) ≡ getD xs j 0 ∷ take k (drop (suc j) xs)
 take-drop-cons k j xs h = ap (take (suc k)) (drop-cons xs j 0 h)

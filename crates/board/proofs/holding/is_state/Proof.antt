@@ -1,0 +1,72 @@
+-- `is_state` meets its contract: every atom passed is of its declaration. Assumes nothing.
+use Prim.Native.Nat.{ℕ, _≤_, _<_, _-_}
+use mathlib.Core.Path.{_≡_, sym, _∙_}
+use mathlib.Core.Bool.{true}
+use mathlib.Core.List.{List}
+use native.Mathlib.Omega.{arith}
+use borrow.Author.Needs.{needs}
+use borrow.Author.Tests.{not-true, not-false}
+use borrow.Author.Count.{below-none, below-more}
+use lib.ListN.{length, getD}
+use denote.Ref.{now}
+use Rattle.board.specs.Board.{declaration, isAtomOf}
+use Rattle.board.specs.Board.States.{is-state, no-state-length, no-state-at}
+use Rattle.board.specs.Lent.{hypothesesIn}
+use Rattle.board.specs.Holds.Remembered.{hypothesesAlone}
+use Rattle.board.proofs.holding.is_state.Statement.{statement}
+use Rattle.board.proofs.holding.is_state.Tie as tie
+
+abbrev Inv-loop : tie.InvT-loop
+Inv-loop declared atom hypotheses count state i₀ i =
+    (i ≤ length state)
+    × ((k : ℕ) → k < i → (w : List ℕ) → true ≡ isAtomOf (declaration (hypothesesIn declared atom w hypotheses) k) (getD state k 0))
+
+abbrev μ-loop : tie.MeasureT-loop
+μ-loop declared atom hypotheses count state i₀ i = length state - i
+
+returns : tie.Need-returns Inv-loop μ-loop
+returns c w = let a = c .before .before .args in
+    no-state-length (hypothesesAlone (hypothesesIn (now (a .declared)) (now (a .atom)) w (a .hypotheses))) (now (a .state)) (λ e. c .if1 .taken (e ∙ sym (c .before .before .pre .1 w)))
+
+loop-holds : tie.Need-loop-holds Inv-loop μ-loop
+loop-holds c = (omega arith, below-none _)
+
+shared-slice-read-is-choice : tie.Need-shared-slice-read-is-choice Inv-loop μ-loop
+shared-slice-read-is-choice c = search needs
+
+is-choice-requires : tie.Need-is-choice-requires Inv-loop μ-loop
+is-choice-requires c κs = search needs
+
+returns-2 : tie.Need-returns-2 Inv-loop μ-loop
+returns-2 c w = let a = c .before .before .before .before .before .before .before .args in
+    no-state-at (hypothesesAlone (hypothesesIn (now (a .declared)) (now (a .atom)) w (a .hypotheses))) (now (a .state))
+    (c .before .before .before .before .loop .i) (omega arith) (rw (not-true (c .before .is-choice .result) (c .if2 .taken)) at (c .before .is-choice .ensures w))
+
+add-i : tie.Need-add-i Inv-loop μ-loop
+add-i c = search needs
+
+loop-less : tie.Need-loop-less Inv-loop μ-loop
+loop-less c = search needs
+
+loop-again : tie.Need-loop-again Inv-loop μ-loop
+loop-again c = (search needs, below-more _ _ (c .before .before .before .before .loop .inv .1) (λ w. rw (not-false (c .before .is-choice .result) (c .if2 .left)) at (c .before .is-choice .ensures w)))
+
+returns-3 : tie.Need-returns-3 Inv-loop μ-loop
+returns-3 c w = let a = c .before .before .before .before .args in
+    is-state (hypothesesAlone (hypothesesIn (now (a .declared)) (now (a .atom)) w (a .hypotheses))) (now (a .state)) (omega (arith, c .before .before .before .before .pre .1 w)) (λ i l. c .before .loop .inv .1 i (omega arith) w)
+
+pub is-state-spec : {M : Type 1} → statement M
+is-state-spec =
+    tie.close
+    (tie.spec
+    Inv-loop
+    μ-loop
+    returns
+    loop-holds
+    shared-slice-read-is-choice
+    is-choice-requires
+    returns-2
+    add-i
+    loop-less
+    loop-again
+    returns-3)

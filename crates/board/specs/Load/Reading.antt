@@ -1,0 +1,89 @@
+-- What it tells that a record was read, and that it is not misplaced. Assumes nothing.
+use Prim.Native.Nat.{ℕ, zero, suc, _+_, _^_, _≤_, _<_}
+use native.Mathlib.Omega.{arith}
+use mathlib.Core.Path.{_≡_, refl}
+use mathlib.Core.Bool.{Bool, true, false, not, cond, true≢false}
+use mathlib.Core.List.{List, [], _∷_}
+use lib.ListN.{length, getD}
+use lib.Dec.{T, ltb, leb, eqb, ltb→lt}
+use lib.Pow.{areBytes}
+use borrow.Author.Tests.{leb-true, leb-false, eqb-true, lt-ltb, not-false}
+use Rattle.board.specs.Lists.{isEmpty}
+use Rattle.board.specs.Lists.Passing.{and-left, and-right}
+use Rattle.board.specs.Answers.{accepted, refusedAt}
+use Rattle.board.specs.Board.{Board}
+use Rattle.board.specs.File.{Found, threeBytes, knownKind, recordOf, nextPlace, readRecord}
+use Rattle.board.specs.Load.{misplaced, misplacedAt}
+
+-- ---- bytes
+
+-- every byte is below 256
+pub byte-at : (file : List ℕ) → T (areBytes file) → (i : ℕ) → getD file i 0 < 256
+byte-at [] h i = omega arith
+byte-at (x ∷ file) h zero = ltb→lt x 256 (and-left (ltb x 256) _ h)
+byte-at (x ∷ file) h (suc i) = byte-at file (and-right (ltb x 256) _ h) i
+
+-- a weight of three bytes is below 2 ^ 24
+pub threeBytes-lt : (file : List ℕ) → T (areBytes file) → (at : ℕ) → threeBytes file at < 2 ^ 24
+unfolding threeBytes
+threeBytes-lt file h at = omega (arith, byte-at file h at, byte-at file h (at + 1), byte-at file h (at + 2))
+
+-- ---- a record that was read
+
+-- the record of the kind at the place is whole
+pub record Read (file : List ℕ) (at : ℕ) (r : Found) : Type 0 where
+  pub there : at < length file
+  pub known : knownKind (getD file at 0) ≡ true
+  pub whole : nextPlace (getD file at 0) at ≤ length file
+  pub same : r ≡ record { found = recordOf (getD file at 0) file (at + 1); next = nextPlace (getD file at 0) at }
+
+-- a record that is accepted was there, known and whole
+pub read-accepted : (file : List ℕ) (at : ℕ) (r : Found) → readRecord file at ≡ accepted r → Read file at r
+unfolding readRecord
+read-accepted file at r e =
+    go (leb (length file) at) (knownKind (getD file at 0)) (leb (nextPlace (getD file at 0) at) (length file)) refl refl refl e
+  where
+    read : Found
+    read = record { found = recordOf (getD file at 0) file (at + 1); next = nextPlace (getD file at 0) at }
+
+    none : (number place : ℕ) → refusedAt number place ≡ accepted r → Read file at r
+    none number place q = absurd (let z : _≡_ {A = ℕ} 0 1 = cc in omega arith)
+
+    go : (s t u : Bool) → leb (length file) at ≡ s → knownKind (getD file at 0) ≡ t → leb (nextPlace (getD file at 0) at) (length file) ≡ u
+        → cond s (refusedAt 1 (length file)) (cond t (cond u (accepted read) (refusedAt 1 at)) (refusedAt 2 at)) ≡ accepted r → Read file at r
+    go true t u x y z q = none 1 (length file) q
+    go false false u x y z q = none 2 at q
+    go false true false x y z q = none 1 at q
+    go false true true x y z q =
+        record { there = leb-false (length file) at x; known = y; whole = leb-true (nextPlace (getD file at 0) at) (length file) z; same = cc }
+
+-- ---- a record that is not misplaced
+
+-- of a record of a known kind
+pub not-misplaced : (file : List ℕ) (at : ℕ) (b : Board) → misplacedAt file at b ≡ false → at < length file → knownKind (getD file at 0) ≡ true
+    → misplaced b (getD file at 0) ≡ false
+unfolding misplacedAt
+not-misplaced file at b m l k = simp (lt-ltb at (length file) l, k) at m
+
+-- the count comes first ..
+pub placed-count : (b : Board) → misplaced b 1 ≡ false → b .atoms ≡ 0
+unfolding misplaced
+placed-count b m = go (eqb (b .atoms) 0) refl m
+  where
+    go : (t : Bool) → eqb (b .atoms) 0 ≡ t → cond t false true ≡ false → b .atoms ≡ 0
+    go true e h = eqb-true (b .atoms) 0 e
+    go false e h = absurd (true≢false h)
+
+-- .. and every other record after it
+pub placed-other : (b : Board) (kind : ℕ) → eqb kind 1 ≡ false → misplaced b kind ≡ false → b .atoms ≡ 0 → ⊥
+unfolding misplaced
+placed-other b kind k m e = true≢false (simp (k, e) at m)
+
+-- a hypothesis comes before the rules
+pub placed-hypothesis : (b : Board) → misplaced b 2 ≡ false → isEmpty (b .rules) ≡ true
+unfolding misplaced
+placed-hypothesis b m = go (eqb (b .atoms) 0) m
+  where
+    go : (t : Bool) → cond t true (not (isEmpty (b .rules))) ≡ false → isEmpty (b .rules) ≡ true
+    go true h = absurd (true≢false h)
+    go false h = not-false (isEmpty (b .rules)) h

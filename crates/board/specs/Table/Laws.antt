@@ -1,0 +1,110 @@
+-- Which tables some file loads to: those whose board passes and whose arrays hold that board and nothing else. The file that a board is written to is
+-- one of bytes, and the test `isTable` passes exactly for the tables that some file loads to. Assumes nothing.
+use mathlib.Core.Path.{_≡_, refl, sym, ap, _∙_}
+use Prim.Native.Nat.{ℕ, _/_, _%_, _≤_, _<_}
+use native.Mathlib.Omega.{arith}
+use mathlib.Core.Bool.{Bool, _&&_}
+use mathlib.Core.List.{List, [], _∷_, _++_, map, flatten}
+use lib.Dec.{T, ltb, ltb→lt, lt→ltb}
+use lib.Pow.{areBytes}
+use borrow.Author.Tests.{lt-ltb}
+use Rattle.board.specs.Lists.Arrays.{all-weaken, all-pad, areBytes-append, areBytes-all, areBytes-flatten}
+use Rattle.board.specs.Lists.Laws.{and-both, and-left, and-right, T-ext}
+use Rattle.board.specs.Sizes.{mostBody, emptyPlace}
+use Rattle.board.specs.Answers.{FileAnswer, accepted, refusedAt}
+use Rattle.board.specs.Board.{Board, Hypothesis, Rule}
+use Rattle.board.specs.File.{lowBytes}
+use Rattle.board.specs.Load.{noBoard, load}
+use Rattle.board.specs.Table.{boardOf, tableOf, placesOf, Loads, hypothesisBytes, ruleBytes, fileOf, sameTable, loadsTo, isTable}
+use Rattle.board.specs.Table.Passes.{boardPasses}
+use Rattle.board.specs.Table.Bounds.{HypothesisBounds, RuleBounds, count-bounds, hypotheses-bounds, rules-bounds, Passing, passing}
+use Rattle.board.specs.Table.Arrays.{boardOf-tableOf, sameTable-refl, sameTable→eq}
+use Rattle.board.specs.Table.Written.{load-written}
+use Rattle.board.specs.declared.Table.{Table}
+
+-- ---- the file's bytes
+
+hypothesis-bytes : (atoms : ℕ) → atoms ≤ 128 → (h : Hypothesis) → HypothesisBounds atoms h → T (areBytes (hypothesisBytes h))
+unfolding hypothesisBytes lowBytes
+hypothesis-bytes atoms few h bounds =
+    rw (
+      lt-ltb (h .declaration) 256 (omega arith),
+      lt-ltb (h .atom) 256 (omega arith),
+      lt-ltb (h .weight % 256) 256 (omega arith),
+      lt-ltb (h .weight / 256 % 256) 256 (omega arith),
+      lt-ltb (h .weight / 256 / 256 % 256) 256 (omega arith),
+    ) tt
+
+rule-bytes : (atoms : ℕ) → atoms ≤ 128 → (r : Rule) → RuleBounds atoms r → T (areBytes (ruleBytes r))
+unfolding ruleBytes placesOf
+rule-bytes atoms few r bounds =
+    rw (lt-ltb (r .head) 256 (omega arith))
+    (areBytes-all (placesOf r)
+    (all-pad (λ x. ltb x 256) mostBody emptyPlace (r .body) tt (all-weaken (λ a. ltb a atoms) (λ x. ltb x 256) byte (r .body) (bounds .body))))
+  where
+    byte : (a : ℕ) → T (ltb a atoms) → T (ltb a 256)
+    byte a l = lt→ltb a 256 (let k : a < atoms = ltb→lt a atoms l in omega arith)
+
+-- the file that a board that passes is written to is one of bytes
+pub written-bytes : (b : Board) → T (boardPasses b) → T (areBytes (fileOf b))
+unfolding fileOf
+written-bytes b t =
+    let p : Passing b = passing b t in
+    let few : b .atoms ≤ 128 = count-bounds noBoard (b .atoms) (p .count-passes) .1 in
+    let h : Hypothesis = record { declaration = 0; atom = 0; weight = 0 } in
+    let r : Rule = record { head = 0; body = [] } in
+    let hs : List ℕ = flatten (map hypothesisBytes (b .hypotheses)) in
+    let rs : List ℕ = flatten (map ruleBytes (b .rules)) in
+    rw (lt-ltb (b .atoms) 256 (omega arith))
+    (areBytes-append (hs ++ rs) (4 ∷ [])
+    (areBytes-append hs rs
+    (areBytes-flatten hypothesisBytes h (b .hypotheses)
+    (λ i l. hypothesis-bytes (b .atoms) few _ (hypotheses-bounds (b .atoms) [] (b .hypotheses) (p .hypotheses-pass) i h l)))
+    (areBytes-flatten ruleBytes r (b .rules)
+    (λ i l. rule-bytes (b .atoms) few _ (rules-bounds (b .atoms) (b .hypotheses) [] (b .rules) (p .rules-pass) i r l))))
+    tt)
+
+-- ---- the test for tables
+
+-- an answer that loads to t is a board whose table is t
+loadsTo-accepted : (a : FileAnswer Board) (t : Table) → T (loadsTo a t) → (b : Board) × (a ≡ accepted b) × (t ≡ tableOf b)
+unfolding loadsTo
+loadsTo-accepted (accepted b) t s = (b, refl, sym (sameTable→eq (tableOf b) t s))
+loadsTo-accepted (refusedAt number place) t s = absurd s
+
+-- some file loads to a table that the test passes: the one that it is written to
+pub isTable→Loads : (t : Table) → T (isTable t) → Loads t
+unfolding isTable
+isTable→Loads t s =
+    let file : List ℕ = fileOf (boardOf t) in
+    let x = loadsTo-accepted (load file) t (and-right (areBytes file) (loadsTo (load file) t) s) in
+    record { file = file; bytes = and-left (areBytes file) (loadsTo (load file) t) s; board = x .0; loaded = x .1; stored = x .2 }
+
+-- the test passes the table of a board that passes
+pub passes-isTable : (b : Board) (t : Table) → T (boardPasses b) → t ≡ tableOf b → T (isTable t)
+unfolding isTable loadsTo
+passes-isTable b t p e =
+    rw (e, boardOf-tableOf b p, load-written b p)
+    (and-both (areBytes (fileOf b)) (sameTable (tableOf b) (tableOf b)) (written-bytes b p) (sameTable-refl (tableOf b)))
+
+module _ (loaded-passes : (file : List ℕ) → T (areBytes file) → (b : Board) → load file ≡ accepted b → T (boardPasses b)) where
+  -- the test passes every table that some file loads to
+  pub Loads→isTable : (t : Table) → Loads t → T (isTable t)
+  Loads→isTable t l = passes-isTable (l .board) t (loaded-passes (l .file) (l .bytes) (l .board) (l .loaded)) (l .stored)
+
+  -- the test, read off the table's fields
+  pub isTable-by-fields : (t : Table) → isTable t ≡ (boardPasses (boardOf t) && sameTable (tableOf (boardOf t)) t)
+  isTable-by-fields t = T-ext (isTable t) (boardPasses (boardOf t) && sameTable (tableOf (boardOf t)) t) there back
+    where
+      there : T (isTable t) → T (boardPasses (boardOf t) && sameTable (tableOf (boardOf t)) t)
+      there s =
+          let l : Loads t = isTable→Loads t s in
+          let p : T (boardPasses (l .board)) = loaded-passes (l .file) (l .bytes) (l .board) (l .loaded) in
+          let e : boardOf t ≡ l .board = ap boardOf (l .stored) ∙ boardOf-tableOf (l .board) p in
+          rw (e, ← l .stored) (and-both (boardPasses (l .board)) (sameTable t t) p (sameTable-refl t))
+
+      back : T (boardPasses (boardOf t) && sameTable (tableOf (boardOf t)) t) → T (isTable t)
+      back s =
+          let p : Bool = boardPasses (boardOf t) in
+          let q : Bool = sameTable (tableOf (boardOf t)) t in
+          passes-isTable (boardOf t) t (and-left p q s) (sym (sameTable→eq (tableOf (boardOf t)) t (and-right p q s)))

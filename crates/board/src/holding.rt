@@ -1,0 +1,166 @@
+// What holds in a board state (document 01, "Board tables and board states"): the atom test and the rule test as its two sentences stand,
+// and the test that some atoms are a board state. The arrays of a table are lent one by one,
+// those of one struct at one lifetime.
+//
+// The counts of basic steps below are for r rules, n hypotheses and a state of d atoms.
+ghost use mathlib.Core.Path.{_≡_};
+ghost use mathlib.Core.List.{List};
+ghost use Prim.Native.Nat.{ℕ, _<_, _≤_};
+ghost use Rattle.board.specs.Sizes.{mostAtoms};
+ghost use Rattle.board.specs.Board.{declaration, declarations, declarationsIn, isAtomOf, isStateOf};
+ghost use Rattle.board.specs.Lent.{hypothesesIn};
+ghost use Rattle.board.specs.Holds.{inState, ruleHolds};
+ghost use Rattle.board.specs.Holds.Remembered.{hypothesesAlone, ruleIn, lentHolds, SoundRules, Remembered};
+
+// A byte as a number that can count. One step.
+fn index(x: u8) -> usize
+    ensures { λ r. ⌜ r ≡ x ⌝ }
+{
+    x as usize
+}
+
+// Whether the state chooses the atom: at most some 5 d + 4 steps.
+pub(crate) fn in_state(state: &[u8], a: u8) -> bool
+    ensures { λ r. ⌜ r ≡ inState (now (state .entry)) a ⌝ }
+{
+    let mut i = 0;
+    while i < state.len() {
+        if state[i] == a {
+            return true;
+        }
+        i += 1;
+    }
+    false
+}
+
+// "An atom holds in a board state if it is chosen or if one of its rules holds." What is found is kept in `known`, a mark an atom: 1 it holds,
+// 2 it does not, 0 not asked yet. An atom that has its mark takes 5 steps. One that has none goes through the rules once and then has it, so with
+// all that it calls this is at most some (a + 1) * (5 d + 5 r + 14) + 120 r steps, 2 * a + 2 calls deep.
+fn atom_holds(
+    head: &[u8; 256],
+    body: &[u8; 2048],
+    rules: usize,
+    state: &[u8],
+    a: u8,
+    known: &mut [u8; 128],
+) -> bool
+    requires { ⌜ SoundRules (now head) (now body) rules ⌝ }
+    requires { ⌜ a < mostAtoms ⌝ }
+    requires { ⌜ Remembered (lentHolds (now head) (now body) rules (now state)) (now known) ⌝ }
+    ensures { λ r. ⌜ r ≡ lentHolds (now (head .entry)) (now (body .entry)) rules (now (state .entry)) a ⌝ }
+    ensures { λ r. ⌜ Remembered (lentHolds (now (head .entry)) (now (body .entry)) rules (now (state .entry))) (now (known .exit)) ⌝ }
+{
+    let at = a as usize;
+    let mark = known[at];
+    if mark == 1 {
+        return true;
+    }
+    if mark == 2 {
+        return false;
+    }
+    if in_state(state, a) {
+        known[at] = 1;
+        return true;
+    }
+    let mut rule = 0;
+    while rule < rules {
+        if head[rule] == a {
+            if rule_holds(head, body, rules, state, rule, known) {
+                known[at] = 1;
+                return true;
+            }
+        }
+        rule += 1;
+    }
+    known[at] = 2;
+    false
+}
+
+// "A rule holds if all its body atoms hold": those in the filled places of the rule's eight. Body atoms are below the head. Some 70 steps, and those
+// of at most eight atom tests.
+fn rule_holds(
+    head: &[u8; 256],
+    body: &[u8; 2048],
+    rules: usize,
+    state: &[u8],
+    rule: usize,
+    known: &mut [u8; 128],
+) -> bool
+    requires { ⌜ SoundRules (now head) (now body) rules ⌝ }
+    requires { ⌜ rule < rules ⌝ }
+    requires { ⌜ Remembered (lentHolds (now head) (now body) rules (now state)) (now known) ⌝ }
+    ensures { λ r. ⌜ r ≡ ruleHolds (lentHolds (now (head .entry)) (now (body .entry)) rules (now (state .entry))) (ruleIn (now (head .entry)) (now (body .entry)) rule) ⌝ }
+    ensures { λ r. ⌜ Remembered (lentHolds (now (head .entry)) (now (body .entry)) rules (now (state .entry))) (now (known .exit)) ⌝ }
+{
+    let first = 8 * rule;
+    let mut place = 0;
+    while place < 8 {
+        let b = body[first + place];
+        if b != 255 {
+            if !atom_holds(head, body, rules, state, b, known) {
+                return false;
+            }
+        }
+        place += 1;
+    }
+    true
+}
+
+// Whether the atom holds in the state, by these rules: at most some (a + 1) * (5 d + 5 r + 14) + 120 r + 130 steps.
+pub(crate) fn holds_in<'a>(
+    head: &'a [u8; 256],
+    body: &'a [u8; 2048],
+    rules: usize,
+    state: &[u8],
+    a: u8,
+) -> bool
+    requires { ⌜ SoundRules (now head) (now body) rules ⌝ }
+    requires { ⌜ a < mostAtoms ⌝ }
+    ensures { λ r. ⌜ r ≡ lentHolds (now (head .entry)) (now (body .entry)) rules (now (state .entry)) a ⌝ }
+{
+    let mut known = [0u8; 128];
+    atom_holds(head, body, rules, state, a, &mut known)
+}
+
+// Whether some hypothesis of declaration `d` has the atom: at most some 7 n + 3 steps.
+fn is_choice(declared: &[u8; 128], atom: &[u8; 128], hypotheses: usize, d: usize, a: u8) -> bool
+    requires { ⌜ hypotheses ≤ mostAtoms ⌝ }
+    ensures { λ r. ⌜ ((weights : List ℕ) → r ≡ isAtomOf (declaration (hypothesesIn (now (declared .entry)) (now (atom .entry)) weights hypotheses) d) a) ⌝ }
+{
+    let mut k = 0;
+    while k < hypotheses {
+        if index(declared[k]) == d {
+            if atom[k] == a {
+                return true;
+            }
+        }
+        k += 1;
+    }
+    false
+}
+
+// Whether the state is one choice per declaration, in declaration order, where `count` is how many declarations there are:
+// at most some d * (7 n + 12) + 5 steps.
+pub(crate) fn is_state<'a>(
+    declared: &'a [u8; 128],
+    atom: &'a [u8; 128],
+    hypotheses: usize,
+    count: usize,
+    state: &[u8],
+) -> bool
+    requires { ⌜ hypotheses ≤ mostAtoms ⌝ }
+    requires { ⌜ ((weights : List ℕ) → count ≡ declarationsIn (hypothesesIn (now declared) (now atom) weights hypotheses)) ⌝ }
+    ensures { λ r. ⌜ ((weights : List ℕ) → r ≡ isStateOf (declarations (hypothesesAlone (hypothesesIn (now (declared .entry)) (now (atom .entry)) weights hypotheses))) (now (state .entry))) ⌝ }
+{
+    if state.len() != count {
+        return false;
+    }
+    let mut i = 0;
+    while i < state.len() {
+        if !is_choice(declared, atom, hypotheses, i, state[i]) {
+            return false;
+        }
+        i += 1;
+    }
+    true
+}
