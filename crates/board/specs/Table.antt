@@ -4,6 +4,7 @@
 -- cite: the table, written out as a file, loads to itself. Assumes nothing.
 pub mod Arrays
 pub mod Bounds
+pub mod Fields
 pub mod Laws
 pub mod Passes
 pub mod Standing

@@ -44,7 +44,7 @@ fn follows(number: usize, declarations: usize) -> bool
 }
 
 // The number of the first check that a hypothesis record fails, 0 where it fails none. Some 300 basic steps at most.
-fn hypothesis_refusal<'a>(
+pub(crate) fn hypothesis_refusal<'a>(
     atoms: usize,
     hypotheses: usize,
     declarations: usize,
@@ -83,7 +83,7 @@ fn hypothesis_refusal<'a>(
 }
 
 // The number of the first check that a rule record fails, 0 where it fails none. Some 300 basic steps at most.
-fn rule_refusal(
+pub(crate) fn rule_refusal(
     atoms: usize,
     hypotheses: usize,
     rules: usize,

@@ -3,11 +3,16 @@
 // those of one struct at one lifetime.
 //
 // The counts of basic steps below are for r rules, n hypotheses and a state of d atoms.
+use crate::Table;
+use crate::Told;
+use crate::accepted::declarations_of;
+use crate::accepted::is_table;
 ghost use mathlib.Core.Path.{_≡_};
 ghost use mathlib.Core.List.{List};
 ghost use Prim.Native.Nat.{ℕ, _<_, _≤_};
 ghost use Rattle.board.specs.Sizes.{mostAtoms};
 ghost use Rattle.board.specs.Board.{declaration, declarations, declarationsIn, isAtomOf, isStateOf};
+ghost use Rattle.board.specs.EntryPoints.{toldMeans, yesOrNo};
 ghost use Rattle.board.specs.Lent.{hypothesesIn};
 ghost use Rattle.board.specs.Holds.{inState, ruleHolds};
 ghost use Rattle.board.specs.Holds.Remembered.{hypothesesAlone, ruleIn, lentHolds, SoundRules, Remembered};
@@ -163,4 +168,29 @@ pub(crate) fn is_state<'a>(
         i += 1;
     }
     true
+}
+
+// Does the atom hold in the board state, a choice of each declaration handed in as atoms in declaration order? Refuses with 20 a table that no file
+// loads to, with 25 what is no board state and with 22 an atom that is none, in that order. At most some 900,000 basic steps on any table, most of
+// them for 20; the stack is that of 2 * 128 calls and one array of 128 bytes.
+pub fn yes_or_no(t: Table, state: &[u8], atom: u8) -> Told
+    ensures { λ r. ⌜ toldMeans r ≡ yesOrNo t (now (state .entry)) atom ⌝ }
+{
+    let atoms = t.atoms;
+    let n = t.hypotheses;
+    let rules = t.rules;
+    if !is_table(t) {
+        return Told::Refused(20);
+    }
+    let declarations = declarations_of(&t.declaration, n);
+    if !is_state(&t.declaration, &t.atom, n, declarations, state) {
+        return Told::Refused(25);
+    }
+    if atoms <= index(atom) {
+        return Told::Refused(22);
+    }
+    if holds_in(&t.head, &t.body, rules, state, atom) {
+        return Told::Yes;
+    }
+    Told::No
 }

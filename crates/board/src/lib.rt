@@ -5,8 +5,9 @@
 ghost use mathlib.Core.Path.{_≡_};
 ghost use Rattle.board.specs.Table.{zeroTable};
 
+pub mod accepted;
 mod checks;
-mod holding;
+pub mod holding;
 pub mod load;
 mod places;
 pub mod record;

@@ -6,9 +6,11 @@ use crate::places::put;
 use crate::record::Read;
 use crate::record::Record;
 use crate::record::read_record;
+use crate::weights::most;
+use crate::weights::wide;
 use crate::zero_table;
 ghost use mathlib.Core.Path.{_≡_};
-ghost use Prim.Native.Nat.{ℕ, max};
+ghost use Prim.Native.Nat.{ℕ};
 ghost use mathlib.Core.Bool.{_&&_};
 ghost use lib.ListN.{length};
 ghost use Rattle.board.specs.Answers.{refusedAt};
@@ -16,19 +18,6 @@ ghost use Rattle.board.specs.Board.{Board};
 ghost use Rattle.board.specs.File.{knownKind};
 ghost use Rattle.board.specs.Load.{load, misplaced};
 ghost use Rattle.board.specs.EntryPoints.{readMeans, Refuses, LoadsAs};
-
-fn wide(x: u8) -> usize
-    ensures { λ r. ⌜ r ≡ x ⌝ }
-{
-    x as usize
-}
-
-// The larger of the two.
-fn most(a: usize, b: usize) -> usize
-    ensures { λ r. ⌜ r ≡ max a b ⌝ }
-{
-    if a < b { b } else { a }
-}
 
 // A refused load: the number, the place, and the table whose every field is zero.
 fn refused(number: u8, place: usize) -> Loading

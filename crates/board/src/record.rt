@@ -45,7 +45,7 @@ fn body_bytes(kind: u8) -> usize
 }
 
 // The eight bytes from `at` on as one number, low byte first.
-fn eight_bytes(file: &[u8], at: usize) -> u64
+pub(crate) fn eight_bytes(file: &[u8], at: usize) -> u64
     requires { ⌜ at + mostBody ≤ length (now file) ⌝ }
     ensures { λ r. ⌜ lowBytes mostBody r ≡ take mostBody (drop at (now (file .entry))) ⌝ }
 {

@@ -2,6 +2,7 @@
 -- `holds` asks a board for its rules alone, and `declarations` for its hypotheses alone, so each is stated of a board that has no more.
 -- Assumes nothing.
 pub mod Laws
+pub mod Tables
 use mathlib.Core.Path.{_≡_}
 use mathlib.Core.Bool.{Bool, true, false}
 use mathlib.Core.List.{List, []}

@@ -9,7 +9,7 @@ use mathlib.Core.List.{List, [], _∷_, _++_, map, flatten, append-assoc, append
 use lib.Dec.{T, eqb, ltb, lt→ltb, eqb→eq, eqb-refl}
 use lib.Pow.{areBytes}
 use lib.ListN.{length, getD, take, drop, replicate, length-append, length-replicate, List·getD-append}
-use lib.Seq.{take-at, drop-append-add}
+use lib.Seq.{length-take-le, getD-take, take-at, drop-append-add}
 use Rattle.board.specs.Lists.Laws.{and-both, and-left, and-right, true-of-T}
 use Rattle.board.specs.Lists.{all, keep, pad, numbersFrom, below, sameNumbers}
 
@@ -32,6 +32,12 @@ module _ {ℓ} {A : Type ℓ} where
   -- the elements by their indices, in order, are the list
   pub map-getD-below : (d : A) (xs : List A) → map (λ i. getD xs i d) (below (length xs)) ≡ xs
   map-getD-below d xs = map-below-by-index (λ i. getD xs i d) d xs (λ i l. refl)
+
+  -- the first k elements by their indices are the list's first k
+  pub map-getD-take : (d : A) (xs : List A) (k : ℕ) → k ≤ length xs → map (λ i. getD xs i d) (below k) ≡ take k xs
+  map-getD-take d xs k h =
+      let e : length (take k xs) ≡ k = length-take-le k xs h in
+      rw e at (map-below-by-index (λ i. getD xs i d) d (take k xs) (λ i l. sym (getD-take k xs i d (omega arith))))
 
   -- ---- a list filled up
 
@@ -61,7 +67,8 @@ module _ {ℓ} {A : Type ℓ} where
   all-weaken p q f [] t = tt
   all-weaken p q f (x ∷ xs) t = and-both (q x) (all q xs) (f x (and-left (p x) (all p xs) t)) (all-weaken p q f xs (and-right (p x) (all p xs) t))
 
-  all-replicate : (p : A → Bool) (a : A) → T (p a) → (n : ℕ) → T (all p (replicate n a))
+  -- a run passes if its value does
+  pub all-replicate : (p : A → Bool) (a : A) → T (p a) → (n : ℕ) → T (all p (replicate n a))
   unfolding all
   all-replicate p a t zero = tt
   all-replicate p a t (suc n) = and-both (p a) (all p (replicate n a)) t (all-replicate p a t n)

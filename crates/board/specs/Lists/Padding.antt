@@ -1,13 +1,16 @@
 -- Laws of `pad`, a list that is filled up to a length, as an array is whose first places are in use: its length, what stands in it, and what
--- storing at the first unused places makes of it. Assumes nothing.
-use mathlib.Core.Path.{_≡_, refl}
+-- storing at the first unused places makes of it; and which arrays are padded lists. Assumes nothing.
+use mathlib.Core.Path.{_≡_, refl, ap₂}
 use mathlib.Core.List.{List, [], _∷_, _++_, append-assoc}
 use Prim.Native.Nat.{ℕ, zero, suc, _+_, _-_, _≤_, _<_}
 use native.Mathlib.Nat.{sub-zero, zero-sub, suc-sub-suc}
 use native.Mathlib.Omega.{arith}
-use lib.ListN.{length, getD, take, drop, set, replicate, length-append, length-replicate}
-use lib.Seq.{take-append-seam, drop-append-add, set-append-seam}
-use Rattle.board.specs.Lists.{pad}
+use lib.Dec.{T, eqb, eqb→eq, eqb-refl}
+use lib.ListN.{length, getD, take, drop, set, replicate, length-append, length-drop, length-replicate, take-append-drop}
+use lib.Seq.{length-take-le, take-append-seam, drop-append-add, drop-at, set-append-seam}
+use Rattle.board.specs.Lists.{all, pad}
+use Rattle.board.specs.Lists.Arrays.{all-replicate}
+use Rattle.board.specs.Lists.Laws.{and-left, and-right}
 
 module _ {ℓ} {A : Type ℓ} where
   -- ---- runs of one value
@@ -56,3 +59,24 @@ module _ {ℓ} {A : Type ℓ} where
   splice-pad n k a xs ys e h =
       let left : n - length xs - length ys ≡ n - (length xs + length ys) = omega arith in
       rw (← e, take-append-seam, drop-append-add, drop-replicate, left, length-append)
+
+-- ---- arrays of numbers that are padded lists
+
+-- a list of nothing but a is a run of a
+pub replicate-of-same : (a : ℕ) (xs : List ℕ) → T (all (eqb a) xs) → replicate (length xs) a ≡ xs
+unfolding all
+replicate-of-same a [] h = refl
+replicate-of-same a (x ∷ xs) h =
+    ap₂ {C = List ℕ} (λ y ys. y ∷ ys) (eqb→eq a x (and-left (eqb a x) (all (eqb a) xs) h)) (replicate-of-same a xs (and-right (eqb a x) (all (eqb a) xs) h))
+
+-- an array with nothing but a from k on is its first k elements, padded
+pub pad-take : (n k a : ℕ) (xs : List ℕ) → length xs ≡ n → k ≤ n → T (all (eqb a) (drop k xs)) → pad n a (take k xs) ≡ xs
+unfolding pad
+pad-take n k a xs e l h =
+    let room : n - length (take k xs) ≡ length (drop k xs) = omega (arith, length-take-le k xs (omega arith), length-drop k xs) in
+    rw (room, replicate-of-same a (drop k xs) h) (take-append-drop k xs)
+
+-- a padded list has nothing but a from its end on
+pub drop-pad-same : (n k a : ℕ) (xs : List ℕ) → length xs ≡ k → T (all (eqb a) (drop k (pad n a xs)))
+unfolding pad
+drop-pad-same n k a xs e = rw (drop-at xs (replicate (n - length xs) a) k e) (all-replicate (eqb a) a (eqb-refl a) (n - length xs))

@@ -80,17 +80,23 @@ unfolding noBoard
 begun-atoms b (inl e) = rw e (omega arith)
 begun-atoms b (inr s) = soFar-room b s .2
 
--- what the loader's functions ask of the arrays
+-- what the code asks of lent arrays whose hypotheses pass
+pub declared-passing : (atoms : ℕ) (ds xs ws : List ℕ) (n m : ℕ) → n ≤ mostAtoms → T (hypothesesPass atoms [] (hypothesesIn ds xs ws n))
+    → m ≡ declarationsIn (hypothesesIn ds xs ws n) → Declared ds ws n m
+declared-passing atoms ds xs ws n m room p c =
+    record {
+      room = room;
+      few = omega (arith, hypotheses-declarations atoms (hypothesesIn ds xs ws n) p);
+      count = c ∙ declarationsIn-lent ds xs [] ws ws n;
+      positive = λ d h. rw (total-lent ds [] xs ws n d) (total-positive atoms (hypothesesIn ds xs ws n) p d (omega (arith, c)));
+    }
+
+-- and of those of a board's table
 pub declared-tableOf : (b : Board) (t : Table) (m : ℕ) → t ≡ tableOf b → Begun b → m ≡ declarationsIn (b .hypotheses)
     → Declared (t .declaration) (t .weight) (t .hypotheses) m
 declared-tableOf b t m e g c =
     let hs = hypothesesIn-tableOf b t e in
     let p = begun-hypotheses b g in
     let n : t .hypotheses ≡ length (b .hypotheses) = unfold tableOf in ap (λ (u : Table). u .hypotheses) e in
-    record {
-      room = omega (arith, hypotheses-length (b .atoms) (b .hypotheses) p, begun-atoms b g);
-      few = omega (arith, hypotheses-declarations (b .atoms) (b .hypotheses) p);
-      count = c ∙ ap declarationsIn (sym hs) ∙ declarationsIn-lent (t .declaration) (t .atom) [] (t .weight) (t .weight) (t .hypotheses);
-      positive = λ d h.
-          rw (total-lent (t .declaration) [] (t .atom) (t .weight) (t .hypotheses) d, hs) (total-positive (b .atoms) (b .hypotheses) p d (omega (arith, c)));
-    }
+    declared-passing (b .atoms) (t .declaration) (t .atom) (t .weight) (t .hypotheses) m
+    (omega (arith, hypotheses-length (b .atoms) (b .hypotheses) p, begun-atoms b g)) (rw hs p) (c ∙ ap declarationsIn (sym hs))

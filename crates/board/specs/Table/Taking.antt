@@ -89,7 +89,7 @@ module _ (b : Board) (t : Table) (e : t ≡ tableOf b) where
       (ap (λ (u : Table). u .head) e) (ap (λ (u : Table). u .body) e)
 
 -- the pieces of one element more
-flatten-snoc : (rs : List Rule) (r : Rule) → flatten (map placesOf (rs ++ (r ∷ []))) ≡ flatten (map placesOf rs) ++ placesOf r
+pub flatten-snoc : (rs : List Rule) (r : Rule) → flatten (map placesOf (rs ++ (r ∷ []))) ≡ flatten (map placesOf rs) ++ placesOf r
 unfolding flatten
 flatten-snoc [] r = append-nil (placesOf r)
 flatten-snoc (q ∷ rs) r = ap (λ (l : List ℕ). placesOf q ++ l) (flatten-snoc rs r) ∙ sym (append-assoc (placesOf q) (flatten (map placesOf rs)) (placesOf r))
@@ -104,7 +104,7 @@ length-places atoms hypotheses rs =
     ∙ omega (arith, length-append before (r ∷ []), length-placesOf r (leb→le _ _ (rulePasses-length atoms hypotheses before r h)))) [] rs (omega arith)
 
 -- the places of a rule whose body is what they hold
-places-back : (places : List ℕ) → length places ≡ mostBody → T (filledFirst places) → placesOf (record { head = 0; body = filled places }) ≡ places
+pub places-back : (places : List ℕ) → length places ≡ mostBody → T (filledFirst places) → placesOf (record { head = 0; body = filled places }) ≡ places
 unfolding placesOf
 places-back places eight first = ap (λ (n : ℕ). pad n emptyPlace (filled places)) (sym eight) ∙ pad-filled places first
 

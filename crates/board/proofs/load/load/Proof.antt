@@ -226,7 +226,7 @@ wide-requires-2 : tie.Need-wide-requires-2 Inv-loop μ-loop
 wide-requires-2 c κs = search needs
 
 add-most : tie.Need-add-most Inv-loop μ-loop
-add-most c = omega (arith, c .wide2 .ensures, hypothesis-number (c .before))
+add-most c = omega (arith, c .wide2 .ensures .0, hypothesis-number (c .before))
 
 most-requires : tie.Need-most-requires Inv-loop μ-loop
 most-requires c κs = search needs
@@ -296,7 +296,7 @@ loop-again c =
     let p = l e .loop .inv in
     let g = c .before .before .found .given in
     again e (count (g .0 .0)) (ap recordMeans (g .1)) refl _ _
-    (rw (c .wide .ensures) (tableOf-count (p .board) (l e .loop .t) (p .table) (g .0 .0))) (p .count)
+    (rw (c .wide .ensures .0) (tableOf-count (p .board) (l e .loop .t) (p .table) (g .0 .0))) (p .count)
 
 loop-less-2 : tie.Need-loop-less-2 Inv-loop μ-loop
 loop-less-2 c = further (c .before .before .before .before .before)
@@ -309,7 +309,7 @@ loop-again-2 c =
     let g = c .before .before .before .found2 .given in
     again e (hypothesis (g .0 .0) (g .0 .1 .0) (g .0 .1 .1 .0)) (ap recordMeans (g .1)) refl _ _
     (tableOf-hypothesis (p .board) (l e .loop .t) (p .table) (g .0 .0) (g .0 .1 .0) (g .0 .1 .1 .0) (hypothesis-fits (c .before .before)))
-    (c .most .ensures ∙ ap₂ max (p .count) (ap (λ (x : ℕ). x + 1) (c .before .wide2 .ensures) ∙ add-one (g .0 .0)) ∙ sym (declarationsIn-snoc (p .board .hypotheses) _))
+    (c .most .ensures ∙ ap₂ max (p .count) (ap (λ (x : ℕ). x + 1) (c .before .wide2 .ensures .0) ∙ add-one (g .0 .0)) ∙ sym (declarationsIn-snoc (p .board .hypotheses) _))
 
 loop-less-3 : tie.Need-loop-less-3 Inv-loop μ-loop
 loop-less-3 c = further (c .before .before .before .before .before)

@@ -1,0 +1,95 @@
+-- `rules_pass` meets its contract: the rules passed so far stand. Assumes nothing.
+use native.Mathlib.Omega.{arith}
+use native.Mathlib.Numerals.{add-one}
+use borrow.Author.Count.{below-none, below-more}
+use mathlib.Core.Path.{_≡_, refl, sym, ap, _∙_}
+use mathlib.Core.List.{List}
+use Prim.Native.Nat.{ℕ, suc, _+_, _-_, _*_, _<_, _≤_}
+use lib.Dec.{T}
+use lib.ListN.{length, getD, take, drop}
+use denote.Ref.{now}
+use Rattle.board.specs.Lists.Laws.{true-of-T, false-of-T, all-at}
+use Rattle.board.specs.Lists.Passing.{all-below}
+use Rattle.board.specs.Lists.Places.{below-of}
+use Rattle.board.specs.File.{rule}
+use Rattle.board.specs.Load.{firstFailing, fieldChecks}
+use Rattle.board.specs.Load.Laws.{recordPasses-zero, zero-recordPasses}
+use Rattle.board.specs.Table.Fields.{ruleStands}
+use Rattle.board.specs.Lent.{hypothesesIn, boardIn, rulesIn}
+use Rattle.board.specs.Lent.Laws.{length-rulesIn}
+use Rattle.board.proofs.accepted.rules_pass.Statement.{statement}
+use Rattle.board.proofs.accepted.rules_pass.Tie as tie
+
+abbrev Inv-loop : tie.InvT-loop
+Inv-loop atoms n rules atom head body j₀ j =
+    (j ≤ rules) × ((ds ws : List ℕ) (k : ℕ) → k < j → T (ruleStands atoms (hypothesesIn ds atom ws n) head body k))
+
+abbrev μ-loop : tie.MeasureT-loop
+μ-loop atoms n rules atom head body j₀ j = rules - j
+
+loop-holds : tie.Need-loop-holds Inv-loop μ-loop
+loop-holds c = (omega arith, λ ds ws k h. absurd (omega arith))
+
+element-copy-out-rule-refusal : tie.Need-element-copy-out-rule-refusal Inv-loop μ-loop
+element-copy-out-rule-refusal c = omega arith
+
+mul-eight-bytes : tie.Need-mul-eight-bytes Inv-loop μ-loop
+mul-eight-bytes c = omega arith
+
+eight-bytes-requires : tie.Need-eight-bytes-requires Inv-loop μ-loop
+eight-bytes-requires c κs = omega (arith, c .eight-bytes-arg .given .0)
+
+rule-refusal-requires : tie.Need-rule-refusal-requires Inv-loop μ-loop
+rule-refusal-requires c κs = omega arith
+
+-- the check of the rule at j, as it stands in the arrays
+standing : (c : tie.After-rule-refusal Inv-loop μ-loop) (ds ws : List ℕ)
+    → let a = c .before .before .before .before .before .before .args in
+    let j = c .before .before .before .before .before .loop .j in
+    c .rule-refusal .result ≡ firstFailing (fieldChecks (boardIn (a .atoms) ds (now (a .atom)) ws (a .n) (rulesIn (now (a .head)) (now (a .body)) j))
+    (rule (getD (now (a .head)) j 0) (take 8 (drop (8 * j) (now (a .body))))))
+standing c ds ws =
+    let a = c .before .before .before .before .before .before .args in
+    let j = c .before .before .before .before .before .loop .j in
+    rw (← c .before .eight-bytes .ensures) (c .rule-refusal .ensures ds ws (rulesIn (now (a .head)) (now (a .body)) j) (length-rulesIn (now (a .head)) (now (a .body)) j))
+
+returns : tie.Need-returns Inv-loop μ-loop
+unfolding ruleStands
+returns c ds ws =
+    let a = c .before .before .before .before .before .before .before .args in
+    let l = c .before .before .before .before .before .before .loop in
+    sym (false-of-T _ (λ t. c .if1 .taken (standing (c .before) ds ws ∙ recordPasses-zero _ _ (all-at _ t (below-of {n = a .rules} {i = l .j} (omega arith))))))
+
+add-j : tie.Need-add-j Inv-loop μ-loop
+add-j c = omega arith
+
+loop-less : tie.Need-loop-less Inv-loop μ-loop
+loop-less c = omega arith
+
+loop-again : tie.Need-loop-again Inv-loop μ-loop
+unfolding ruleStands
+loop-again c =
+    let l = c .before .before .before .before .before .before .loop in
+    (omega arith, λ ds ws. below-more _ _ (l .inv .1 ds ws) (zero-recordPasses _ _ (sym (standing (c .before) ds ws) ∙ c .if1 .left)))
+
+returns-2 : tie.Need-returns-2 Inv-loop μ-loop
+returns-2 c ds ws =
+    let all-of : c .before .loop .j ≡ c .before .before .args .rules = omega arith in
+    sym (true-of-T _ (all-below _ _ (λ k h. c .before .loop .inv .1 ds ws k (omega arith))))
+
+pub rules-pass-spec : {M : Type 1} → statement M
+rules-pass-spec =
+    tie.close
+    (tie.spec
+    Inv-loop
+    μ-loop
+    loop-holds
+    element-copy-out-rule-refusal
+    mul-eight-bytes
+    eight-bytes-requires
+    rule-refusal-requires
+    returns
+    add-j
+    loop-less
+    loop-again
+    returns-2)

@@ -1,0 +1,58 @@
+-- The test of a table field by field, as the code makes it, for the proofs: `isTable` says what it has to come out as. Assumes nothing.
+pub mod Boards
+pub mod Laws
+pub mod Parts
+pub mod Stored
+pub mod Zero
+use Prim.Native.Nat.{ℕ, _*_}
+use mathlib.Core.Path.{_≡_}
+use mathlib.Core.Bool.{Bool, _&&_}
+use mathlib.Core.List.{List, []}
+use lib.Dec.{eqb, leb}
+use lib.ListN.{length, getD, take, drop}
+use Rattle.board.specs.Lists.{all, below}
+use Rattle.board.specs.Sizes.{mostAtoms, mostRules, mostBody, mostW}
+use Rattle.board.specs.Board.{Hypothesis, W}
+use Rattle.board.specs.Accepted.{within}
+use Rattle.board.specs.File.{rule}
+use Rattle.board.specs.Table.{boardOf}
+use Rattle.board.specs.Table.Passes.{recordPasses, hypothesesPass}
+use Rattle.board.specs.Lent.{hypothesesIn, rulesIn}
+use Rattle.board.specs.declared.Table.{Table}
+
+-- the arrays have the lengths that the code declares
+pub record Sized (t : Table) : Type 0 where
+  pub declaration : length (t .declaration) ≡ mostAtoms
+  pub atom : length (t .atom) ≡ mostAtoms
+  pub weight : length (t .weight) ≡ mostAtoms
+  pub head : length (t .head) ≡ mostRules
+  pub body : length (t .body) ≡ mostBody * mostRules
+
+-- the record of rule j, with its eight places as they stand, after the j rules before it
+unfoldable pub ruleStands : ℕ → List Hypothesis → List ℕ → List ℕ → ℕ → Bool
+ruleStands atoms hypotheses head body j =
+    recordPasses (record { atoms = atoms; hypotheses = hypotheses; rules = rulesIn head body j })
+    (rule (getD head j 0) (take mostBody (drop (mostBody * j) body)))
+
+-- an array with nothing but zeros from n on
+unfoldable pub zeroFrom : ℕ → List ℕ → Bool
+zeroFrom n array = all (eqb 0) (drop n array)
+
+unfoldable pub sizesStand : Table → Bool
+sizesStand t = within 1 mostAtoms (t .atoms) && leb (t .hypotheses) mostAtoms && leb (t .rules) mostRules
+
+unfoldable pub roomStands : Table → Bool
+roomStands t =
+    zeroFrom (t .hypotheses) (t .declaration)
+    && zeroFrom (t .hypotheses) (t .atom)
+    && zeroFrom (t .hypotheses) (t .weight)
+    && zeroFrom (t .rules) (t .head)
+    && zeroFrom (mostBody * t .rules) (t .body)
+
+unfoldable pub fieldsStand : Table → Bool
+fieldsStand t =
+    sizesStand t
+    && hypothesesPass (t .atoms) [] (hypothesesIn (t .declaration) (t .atom) (t .weight) (t .hypotheses))
+    && all (ruleStands (t .atoms) (hypothesesIn (t .declaration) (t .atom) (t .weight) (t .hypotheses)) (t .head) (t .body)) (below (t .rules))
+    && leb (W (boardOf t)) mostW
+    && roomStands t
