@@ -47,7 +47,7 @@ pub enum Told {
 }
 
 // The table whose every field is zero, which a refused load hands back. 6 stores of some 3 KB in all.
-pub fn zero_table() -> Table
+pub(crate) fn zero_table() -> Table
     ensures { λ r. ⌜ r ≡ zeroTable ⌝ }
 {
     Table {
