@@ -13,9 +13,10 @@ length, low byte first, and that many bytes of a board file.  The line for an
 item is `accepted W` or `refused N at P`.
 
 states.bin is a sequence of items too: a two-byte length, low byte first, and
-the bytes of a board file, always one that loads; a byte with the count of the
-state's atoms, these atoms, and a byte for the atom asked.  The line for an
-item is `yes`, `no` or `refused N`.
+the bytes of a board file; a byte with the count of the state's atoms, these
+atoms, and a byte for the atom asked.  The line for an item is `yes`, `no` or
+`refused N`.  The question is put to the table that loading hands back, which
+for a refused file has every field zero and so is one that no file loads to.
 
 stdout has the lines of boards.bin, then those of states.bin, each with a line
 feed at its end.  The lines are the enumerator's answers.  Where a case has a
@@ -252,6 +253,20 @@ def refused_states():
     ])
 
 
+def unloaded_states():
+    """ "A refused load returns the table whose every field is zero."; "20 |
+    table | a table handed in that no file loads to"; "The yes-or-no checks
+    20, 25, 22" """
+    file = en.build_file(*boards.BOARD_001)
+    for name, spoiled in (("the empty file", b""), ("cut off", file[:-1]),
+                          ("a byte after the end", file + b"\4"),
+                          ("kind", b"\5" + file[1:])):
+        for state, atom in (((), 0), ((1, 2), 7), ((2, 1), 255)):
+            yield StateItem("refused file, %s: %s, asked %d" % (
+                name, " ".join(map(str, state)) or "nothing", atom),
+                spoiled, state, atom, refused(20))
+
+
 def bare_states():
     """Boards without declarations, rules without body, atoms without rule."""
     yield from asked_of("C9", boards.BOARD_C9, [
@@ -399,7 +414,8 @@ def spoiled_state(rng, state):
 @lru_cache(maxsize=None)
 def state_items():
     """All items of states.bin, in order."""
-    return tuple(item for family in (small_states, refused_states, bare_states,
+    return tuple(item for family in (small_states, refused_states,
+                                     unloaded_states, bare_states,
                                      ladder_states, full_states, random_states)
                  for item in family())
 
@@ -412,10 +428,11 @@ def board_line(file):
 
 
 def state_line(file, state, atom):
-    """ `yes`, `no` or `refused N`; the board is one that loads """
+    """ `yes`, `no` or `refused N`; no file loads to the table that a refused
+    load hands back, since a count of 0 is refused """
     loaded = en.load(file)
     if loaded.refusal:
-        raise ValueError("states.bin has only boards that load")
+        return refused(20)
     answer = en.yes_or_no(loaded.table, tuple(state), atom)
     if answer.refusal:
         return refused(answer.refusal)
