@@ -1,7 +1,10 @@
 -- Which boards are accepted, sentence by sentence: document 01, "Board tables and board states". This is what a reader may rely on of a loaded
--- table; `Load` says the same file by file, refusal by refusal, and a law says that every loaded board is accepted. Assumes nothing.
+-- table; `Load` says the same file by file, refusal by refusal, and laws say that a board is accepted exactly if some file loads to it.
+-- Assumes nothing.
 pub mod Distinct
+pub mod Exact
 pub mod Laws
+pub mod Within
 use Prim.Native.Nat.{ℕ, suc}
 use mathlib.Core.Bool.{Bool, true, false, not, _&&_}
 use mathlib.Core.List.{List, [], _∷_, map}

@@ -1,12 +1,12 @@
 -- Functions on lists that go by a test (a function into Bool), which the toolchain's libraries do not have, and two sums.
 -- Nothing here is of document 01. Assumes nothing.
-pub mod Arrays
 pub mod Ascending
 pub mod Ends
+pub mod Flatten
 pub mod Laws
 pub mod Padding
-pub mod Passing
 pub mod Places
+pub mod Tests
 use Prim.Native.Nat.{ℕ, zero, suc, _+_, _*_, _-_}
 use mathlib.Core.Bool.{Bool, true, false, _&&_, _||_, cond}
 use mathlib.Core.List.{List, [], _∷_, _++_}

@@ -4,10 +4,11 @@
 -- cite: the table, written out as a file, loads to itself. Assumes nothing.
 pub mod Arrays
 pub mod Bounds
+pub mod Declared
 pub mod Fields
 pub mod Laws
 pub mod Passes
-pub mod Standing
+pub mod Places
 pub mod Taking
 pub mod Written
 use Prim.Native.Nat.{ℕ, _*_}

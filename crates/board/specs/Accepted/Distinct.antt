@@ -1,14 +1,16 @@
 -- Laws of lists in which no number stands twice. Assumes nothing.
-use Prim.Native.Nat.{ℕ, zero, suc, _+_, _≤_}
+use Prim.Native.Nat.{ℕ, zero, suc, _+_, _≤_, _<_}
 use native.Mathlib.Omega.{arith}
 use mathlib.Core.Path.{_≡_, refl, sym, ap, _∙_}
-use mathlib.Core.Bool.{Bool, true, false, not, _||_, cond}
-use mathlib.Core.List.{List, [], _∷_, _++_, map, List·Memᴰ, List·Memᴰ·head, List·Memᴰ·tail}
+use mathlib.Core.Bool.{Bool, true, false, not, _||_, cond, true≢false}
+use mathlib.Core.List.{List, [], _∷_, _++_, map, List·Memᴰ, List·Memᴰ·head, List·Memᴰ·tail, Memᴰ·map}
 use lib.ListN.{length}
-use lib.Dec.{T, ltb, eqb}
-use borrow.Author.Tests.{ltb-true, ltb-false, eqb-true, eqb-false, le-ltb, not-true}
+use lib.Dec.{T, ltb, eqb, ltb→lt}
+use borrow.Author.Tests.{ltb-true, ltb-false, eqb-true, eqb-false, not-true}
 use Rattle.board.specs.Lists.{any, all, keep, among}
-use Rattle.board.specs.Lists.Passing.{passes-true, and-both, and-left, and-right, or-left, or-right, eqb-swap, keep-none, keep-all, any-append, members-none, among-member, member-map, false-fails}
+use Rattle.board.specs.Lists.Ends.{any-append}
+use Rattle.board.specs.Lists.Laws.{keep-none, keep-all, any-none, among-of}
+use Rattle.board.specs.Lists.Tests.{true-of-T, and-both, and-left, and-right, or-false-left, or-false-right, eqb-swap}
 use Rattle.board.specs.Accepted.{distinct}
 
 -- one number more, that is not among them
@@ -17,18 +19,18 @@ unfolding distinct among any
 distinct-snoc [] x h k = tt
 distinct-snoc (y ∷ xs) x h k =
     and-both (not (any (eqb y) (xs ++ (x ∷ [])))) _
-    (rw (any-append (eqb y) xs (x ∷ [])) (new (any (eqb y) xs) (eqb y x) (and-left (not (any (eqb y) xs)) _ h) (eqb-swap y x ∙ or-left (eqb x y) _ k)))
-    (distinct-snoc xs x (and-right (not (any (eqb y) xs)) _ h) (or-right (eqb x y) _ k))
+    (rw (any-append (eqb y) xs (x ∷ [])) (new (any (eqb y) xs) (eqb y x) (and-left (not (any (eqb y) xs)) _ h) (eqb-swap y x ∙ or-false-left (eqb x y) _ k)))
+    (distinct-snoc xs x (and-right (not (any (eqb y) xs)) _ h) (or-false-right (eqb x y) _ k))
   where
     new : (s t : Bool) → T (not s) → t ≡ false → T (not (s || (t || false)))
     new true t h e = h
-    new false true h e = false-fails true e tt
+    new false true h e = true≢false e
     new false false h e = tt
 
 -- the head is not among the rest
 pub distinct-head : (x : ℕ) (xs : List ℕ) → T (distinct (x ∷ xs)) → among x xs ≡ false
 unfolding distinct
-distinct-head x xs h = not-true (among x xs) (passes-true _ (and-left (not (among x xs)) _ h))
+distinct-head x xs h = not-true (among x xs) (true-of-T _ (and-left (not (among x xs)) _ h))
 
 -- the rest is distinct too
 pub distinct-tail : (x : ℕ) (xs : List ℕ) → T (distinct (x ∷ xs)) → T (distinct xs)
@@ -66,7 +68,7 @@ keep-below-suc m (x ∷ xs) = go (ltb x (suc m)) (ltb x m) (eqb m x) refl refl r
 
 -- of distinct numbers, m at most are below m
 pub distinct-below : (m : ℕ) (xs : List ℕ) → T (distinct xs) → length (keep (λ x. ltb x m) xs) ≤ m
-distinct-below zero xs h = rw (keep-none (λ x. ltb x zero) xs (members-none (λ x. ltb x zero) xs (λ x i. le-ltb x zero (omega arith)))) (omega arith)
+distinct-below zero xs h = rw (keep-none (λ x. ltb x zero) xs (any-none (λ x. ltb x zero) xs (λ x m t. let l : x < zero = ltb→lt x zero t in omega arith))) (omega arith)
 distinct-below (suc m) xs h = omega (arith, keep-below-suc m xs, distinct-below m xs h, distinct-once m xs h)
 
 -- distinct numbers that are all below m are m at most
@@ -75,7 +77,7 @@ distinct-room m xs h k = rw (keep-all (λ x. ltb x m) xs k) at (distinct-below m
 
 -- a member of the rest has another image than the head
 apart : {A : Type 0} (f : A → ℕ) (z : A) (xs : List A) → T (distinct (map f (z ∷ xs))) → (y : A) → List·Memᴰ y xs → f z ≡ f y → ⊥
-apart f z xs h y n e = false-fails true (sym (rw e (among-member (f y) (map f xs) (member-map f y xs n))) ∙ distinct-head (f z) (map f xs) h) tt
+apart f z xs h y n e = true≢false (sym (rw e (true-of-T (among (f y) (map f xs)) (among-of (Memᴰ·map f n)))) ∙ distinct-head (f z) (map f xs) h)
 
 -- members with equal images are equal, where the images are distinct
 pub distinct-members : {A : Type 0} (f : A → ℕ) (xs : List A) → T (distinct (map f xs)) → (x y : A) → List·Memᴰ x xs → List·Memᴰ y xs → f x ≡ f y → x ≡ y

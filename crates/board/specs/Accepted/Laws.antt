@@ -9,38 +9,23 @@ use lib.Dec.{T, ltb, leb, eqb, ltb→lt, leb→le, le→leb}
 use lib.Pow.{areBytes}
 use borrow.Author.Tests.{not-true, eq-eqb}
 use Rattle.board.specs.Lists.{all, sum, below, ascending}
-use Rattle.board.specs.Lists.Passing.{passes-true, and-both, and-four, four-and, five-and, and-six, six-and, and-left, and-right, all-map, all-below, all-keep, all-member, none-member}
+use Rattle.board.specs.Lists.Laws.{all-map, all-keep, all-at, none-at}
+use Rattle.board.specs.Lists.Places.{all-below}
+use Rattle.board.specs.Lists.Tests.{true-of-T, and-both, and-four, four-and, five-and, and-six, six-and, and-left, and-right}
 use Rattle.board.specs.Sizes.{mostAtoms, mostDeclarations, mostHypotheses, mostWeight, mostRules, mostBody, mostW}
 use Rattle.board.specs.Answers.{accepted}
 use Rattle.board.specs.Board.{Board, Hypothesis, Rule, declarationsIn, declaration, declarations, isAtomOf, isHypothesis, total, W}
-use Rattle.board.specs.File.{finish}
 use Rattle.board.specs.Load.{load}
 use Rattle.board.specs.Load.Checks.{finish-weight}
-use Rattle.board.specs.Load.Laws.{recordPasses-zero, soFar-hypotheses, soFar-rules}
-use Rattle.board.specs.Load.Loaded.{loaded-passes}
 use Rattle.board.specs.Load.Hypotheses.{hypotheses-below, hypotheses-weights, hypotheses-distinct, hypotheses-sizes, hypotheses-stepwise}
-use Rattle.board.specs.Load.Rules.{rules-right}
+use Rattle.board.specs.Load.Laws.{soFar-hypotheses, soFar-rules, boardPasses-soFar, boardPasses-finish}
+use Rattle.board.specs.Load.Loaded.{loaded-passes}
 use Rattle.board.specs.Load.Room.{soFar-room}
+use Rattle.board.specs.Load.Rules.{rules-right}
 use Rattle.board.specs.Accepted.{within, distinct, stepwise, atomsRight, hypothesesRight, ruleRight, rulesRight, isBoard}
 use Rattle.board.specs.Accepted.Distinct.{distinct-members, distinct-room}
+use Rattle.board.specs.Accepted.Within.{within-of, within-low, within-high}
 use Rattle.board.specs.Table.Passes.{hypothesesPass, soFar, boardPasses}
-
--- ---- ranges
-
--- lo ≤ n ≤ hi is within
-pub within-of : (lo hi n : ℕ) → lo ≤ n → n ≤ hi → T (within lo hi n)
-unfolding within
-within-of lo hi n l h = and-both (leb lo n) _ (le→leb lo n l) (le→leb n hi h)
-
--- what is within is at least lo ..
-pub within-low : (lo hi n : ℕ) → T (within lo hi n) → lo ≤ n
-unfolding within
-within-low lo hi n t = leb→le lo n (and-left (leb lo n) _ t)
-
--- .. and at most hi
-pub within-high : (lo hi n : ℕ) → T (within lo hi n) → n ≤ hi
-unfolding within
-within-high lo hi n t = leb→le n hi (and-right (leb lo n) _ t)
 
 -- ---- what passes is accepted
 
@@ -90,10 +75,10 @@ passes-hypotheses b h =
 
 -- every board that passes is accepted
 pub passes-accepted : (b : Board) → T (boardPasses b) → T (isBoard b)
-unfolding boardPasses isBoard atomsRight rulesRight
+unfolding isBoard atomsRight rulesRight
 passes-accepted b p =
-    let h : T (soFar b) = and-left (soFar b) _ p in
-    let c : W b ≤ 1_000_000_000_000_000 = finish-weight b (recordPasses-zero b finish (and-right (soFar b) _ p)) in
+    let h : T (soFar b) = boardPasses-soFar b p in
+    let c : W b ≤ 1_000_000_000_000_000 = finish-weight b (boardPasses-finish b p) in
     let room = soFar-room b h in
     and-four (atomsRight b) (hypothesesRight b) (rulesRight b) (leb (W b) mostW) (
       within-of 1 128 (b .atoms) (room .3) (room .2),
@@ -163,19 +148,27 @@ module _ (b : Board) (t : T (isBoard b)) where
   module _ (h : Hypothesis) (m : List·Memᴰ h (b .hypotheses)) where
     -- "whole weights 1 to 16,777,215"
     pub board-weight-positive : 1 ≤ h .weight
-    board-weight-positive = within-low 1 mostWeight (h .weight) (all-member (λ h. within 1 mostWeight (h .weight)) (b .hypotheses) (hypothesis-parts .3) h m)
+    board-weight-positive = within-low 1 mostWeight (h .weight) (all-at (λ h. within 1 mostWeight (h .weight)) (hypothesis-parts .3) m)
 
     -- .. and no more
     pub board-weight-room : h .weight ≤ 16_777_215
-    board-weight-room = within-high 1 mostWeight (h .weight) (all-member (λ h. within 1 mostWeight (h .weight)) (b .hypotheses) (hypothesis-parts .3) h m)
+    board-weight-room = within-high 1 mostWeight (h .weight) (all-at (λ h. within 1 mostWeight (h .weight)) (hypothesis-parts .3) m)
 
     -- its atom is below the count
     pub board-atom-below : h .atom < b .atoms
-    board-atom-below = ltb→lt (h .atom) (b .atoms) (all-member (λ h. ltb (h .atom) (b .atoms)) (b .hypotheses) (hypothesis-parts .4) h m)
+    board-atom-below = ltb→lt (h .atom) (b .atoms) (all-at (λ h. ltb (h .atom) (b .atoms)) (hypothesis-parts .4) m)
 
   -- "A hypothesis is an atom in exactly one declaration": hypotheses with equal atoms are equal
   pub board-atoms-distinct : (h k : Hypothesis) → List·Memᴰ h (b .hypotheses) → List·Memᴰ k (b .hypotheses) → h .atom ≡ k .atom → h ≡ k
   board-atoms-distinct h k m n e = distinct-members (λ (h : Hypothesis). h .atom) (b .hypotheses) (hypothesis-parts .5) h k m n e
+
+  -- no atom stands twice
+  pub board-distinct : T (distinct (map (λ (h : Hypothesis). h .atom) (b .hypotheses)))
+  board-distinct = hypothesis-parts .5
+
+  -- the declarations' numbers: each is the number before or one more
+  pub board-stepwise : T (stepwise (b .hypotheses))
+  board-stepwise = hypothesis-parts .1
 
   -- there are no more hypotheses than atoms
   pub board-hypotheses-room : length (b .hypotheses) ≤ b .atoms
@@ -193,7 +186,7 @@ module _ (b : Board) (t : T (isBoard b)) where
     unfolding rulesRight ruleRight
     rule-parts =
         five-and (ltb (r .head) (b .atoms)) (not (isHypothesis b (r .head))) (leb (length (r .body)) mostBody) (all (λ a. ltb a (r .head)) (r .body)) (ascending (r .body))
-        (all-member (ruleRight b) (b .rules) (and-right (leb (length (b .rules)) mostRules) _ (parts .2)) r m)
+        (all-at (ruleRight b) (and-right (leb (length (b .rules)) mostRules) _ (parts .2)) m)
 
     -- the head is below the count
     pub board-head-below : r .head < b .atoms
@@ -201,12 +194,12 @@ module _ (b : Board) (t : T (isBoard b)) where
 
     -- a hypothesis "heads no rule"
     pub board-head-no-hypothesis : isHypothesis b (r .head) ≡ false
-    board-head-no-hypothesis = not-true _ (passes-true _ (rule-parts .1))
+    board-head-no-hypothesis = not-true _ (true-of-T _ (rule-parts .1))
 
     -- so no hypothesis has a head for its atom
     pub board-head-no-member : (h : Hypothesis) → List·Memᴰ h (b .hypotheses) → h .atom ≡ r .head → ⊥
     unfolding isHypothesis isAtomOf
-    board-head-no-member h n e = true≢false (sym (eq-eqb (h .atom) (r .head) e) ∙ none-member (λ h. eqb (h .atom) (r .head)) (b .hypotheses) board-head-no-hypothesis h n)
+    board-head-no-member h n e = true≢false (sym (eq-eqb (h .atom) (r .head) e) ∙ none-at (λ h. eqb (h .atom) (r .head)) board-head-no-hypothesis n)
 
     -- "0 to 8 body atoms"
     pub board-body-length : length (r .body) ≤ 8
@@ -214,7 +207,7 @@ module _ (b : Board) (t : T (isBoard b)) where
 
     -- "Body atoms are below the head"
     pub board-body-below : (a : ℕ) → List·Memᴰ a (r .body) → a < r .head
-    board-body-below a n = ltb→lt a (r .head) (all-member (λ a. ltb a (r .head)) (r .body) (rule-parts .3) a n)
+    board-body-below a n = ltb→lt a (r .head) (all-at (λ a. ltb a (r .head)) (rule-parts .3) n)
 
     -- the body ascends
     pub board-body-ascending : T (ascending (r .body))
@@ -225,11 +218,11 @@ module _ (b : Board) (t : T (isBoard b)) where
   module _ (d : List Hypothesis) (m : List·Memᴰ d (declarations b)) where
     -- "each of 1 to 16 hypotheses"
     pub board-declaration-positive : 1 ≤ length d
-    board-declaration-positive = within-low 1 mostHypotheses (length d) (all-member (λ d. within 1 mostHypotheses (length d)) (declarations b) (hypothesis-parts .2) d m)
+    board-declaration-positive = within-low 1 mostHypotheses (length d) (all-at (λ d. within 1 mostHypotheses (length d)) (hypothesis-parts .2) m)
 
     -- .. and no more
     pub board-declaration-room : length d ≤ 16
-    board-declaration-room = within-high 1 mostHypotheses (length d) (all-member (λ d. within 1 mostHypotheses (length d)) (declarations b) (hypothesis-parts .2) d m)
+    board-declaration-room = within-high 1 mostHypotheses (length d) (all-at (λ d. within 1 mostHypotheses (length d)) (hypothesis-parts .2) m)
 
     -- its total is at least 1
     pub board-total-positive : 1 ≤ total d
@@ -237,5 +230,5 @@ module _ (b : Board) (t : T (isBoard b)) where
         omega (
           arith,
           board-declaration-positive,
-          total-length d (all-member (all (λ h. within 1 mostWeight (h .weight))) (declarations b) (declarations-all (λ h. within 1 mostWeight (h .weight)) b (hypothesis-parts .3)) d m),
+          total-length d (all-at (all (λ h. within 1 mostWeight (h .weight))) (declarations-all (λ h. within 1 mostWeight (h .weight)) b (hypothesis-parts .3)) m),
         )

@@ -1,9 +1,9 @@
 -- What loading hands back, from what the loader's parts say. Assumes nothing.
-use mathlib.Core.Path.{_≡_, refl, sym, ap, _∙_}
+use mathlib.Core.Path.{_≡_, sym, ap, _∙_}
 use Prim.Native.Nat.{ℕ}
 use Rattle.board.specs.Answers.{FileAnswer, accepted, refusedAt}
 use Rattle.board.specs.Board.{Board}
-use Rattle.board.specs.Table.{tableIn, tableOf, zeroTable}
+use Rattle.board.specs.Table.{tableIn, tableOf}
 use Rattle.board.specs.EntryPoints.{outcomeOf, loadedMeans, LoadsAs, Refuses}
 use Rattle.board.specs.declared.Table.{Table}
 use Rattle.board.specs.declared.Loading.{Loading}

@@ -1,25 +1,28 @@
 -- The hypotheses that the code lends, by their places: whether an atom is of a declaration.
 -- Assumes nothing.
-use Prim.Native.Nat.{ℕ, suc, _<_, max}
-use mathlib.Core.Path.{_≡_, refl, ap, _∙_}
+use Prim.Native.Nat.{ℕ, _<_}
+use mathlib.Core.Path.{_≡_, _∙_}
 use mathlib.Core.Bool.{Bool, true, false, _&&_}
-use mathlib.Core.List.{List, [], _∷_, map}
+use mathlib.Core.List.{List}
 use lib.Dec.{eqb, eqb→eq, eqb-refl}
 use lib.ListN.{getD}
 use Rattle.board.specs.Lists.{any, below}
-use Rattle.board.specs.Lists.Laws.{and-both, and-left, and-right, any-keep, any-map}
+use Rattle.board.specs.Lists.Laws.{any-keep, any-map}
 use Rattle.board.specs.Lists.Places.{any-below, none-below}
-use Rattle.board.specs.Board.{Hypothesis, declarationsIn, declaration, isAtomOf}
+use Rattle.board.specs.Lists.Tests.{and-both, and-left, and-right}
+use Rattle.board.specs.Board.{Hypothesis, declaration, isAtomOf}
 use Rattle.board.specs.Lent.{hypothesesIn}
 
 module _ (declared atom weights : List ℕ) (n d a : ℕ) where
-  -- hypothesis i is of this declaration; it has this atom
+  -- hypothesis i is of this declaration
   ofIt : ℕ → Bool
   ofIt i = eqb (getD declared i 0) d
 
+  -- hypothesis i has this atom
   hasIt : ℕ → Bool
   hasIt i = eqb (getD atom i 0) a
 
+  -- an atom is of the declaration if one of the first n hypotheses has both
   by-place : isAtomOf (declaration (hypothesesIn declared atom weights n) d) a ≡ any (λ i. ofIt i && hasIt i) (below n)
   unfolding isAtomOf declaration hypothesesIn ofIt hasIt
   by-place = any-keep (λ (h : Hypothesis). eqb (h .atom) a) (λ (h : Hypothesis). eqb (h .declaration) d) _ ∙ any-map _ _ (below n)

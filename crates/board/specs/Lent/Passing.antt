@@ -1,18 +1,19 @@
 -- Hypotheses in lent arrays that pass their checks one after another: the first ones pass where more do, and one more passes by its own check.
 -- Assumes nothing.
-use mathlib.Core.Path.{_≡_, refl, sym, ap, ap₂, _∙_}
-use Prim.Native.Nat.{ℕ, zero, suc, _^_, _≤_, _<_}
+use mathlib.Core.Path.{_≡_, sym, ap, _∙_}
+use Prim.Native.Nat.{ℕ, zero, suc, _^_, _<_}
 use native.Mathlib.Omega.{arith}
 use native.Mathlib.Decide.{decLt}
-use mathlib.Core.Bool.{Bool, true, false, _&&_}
+use mathlib.Core.Bool.{Bool, false, _&&_}
 use mathlib.Core.List.{List, []}
-use lib.Dec.{T, eqb, ltb, eqb→eq, eqb-refl, ltb→lt, lt→ltb}
+use lib.Dec.{T}
 use lib.ListN.{getD}
-use Rattle.board.specs.Lists.Laws.{and-both, and-left, and-right, false-of-T}
+use Rattle.board.specs.Lists.Tests.{and-both, and-left, and-right, false-of-T}
 use Rattle.board.specs.File.{hypothesis}
 use Rattle.board.specs.Load.{firstFailing, fieldChecks}
-use Rattle.board.specs.Load.Laws.{hypothesesPass-snoc, recordPasses-zero, zero-recordPasses}
-use Rattle.board.specs.Table.Passes.{recordPasses, hypothesisPasses, hypothesesPass}
+use Rattle.board.specs.Load.Hypotheses.{hypothesisPasses-zero, hypothesisPasses-weight}
+use Rattle.board.specs.Load.Laws.{hypothesesPass-snoc, hypothesisPasses-of}
+use Rattle.board.specs.Table.Passes.{hypothesisPasses, hypothesesPass}
 use Rattle.board.specs.Lent.{hypothesesIn, boardIn}
 use Rattle.board.specs.Lent.Laws.{hypothesisIn, hypothesesIn-suc}
 
@@ -25,9 +26,11 @@ module _ (atoms : ℕ) (ds xs ws : List ℕ) where
   abbrev pub nextPasses : ℕ → Bool
   nextPasses i = hypothesisPasses atoms (hypothesesIn ds xs ws i) (hypothesisIn ds xs ws i)
 
+  -- the first ones and one more
   pub firstPass-suc : (i : ℕ) → firstPass (suc i) ≡ (firstPass i && nextPasses i)
   firstPass-suc i = ap (hypothesesPass atoms []) (hypothesesIn-suc ds xs ws i) ∙ hypothesesPass-snoc atoms [] (hypothesesIn ds xs ws i) (hypothesisIn ds xs ws i)
 
+  -- one more passes, so they all do
   pub firstPass-more : (i : ℕ) → T (firstPass i) → T (nextPasses i) → T (firstPass (suc i))
   firstPass-more i p q = rw (firstPass-suc i) (and-both (firstPass i) (nextPasses i) p q)
 
@@ -48,16 +51,13 @@ module _ (atoms : ℕ) (ds xs ws : List ℕ) where
   -- the check of one
   pub nextPasses-of : (i : ℕ) → getD ws i 0 < 2 ^ 24
       → firstFailing (fieldChecks (boardIn atoms ds xs ws i []) (hypothesis (getD ds i 0) (getD xs i 0) (getD ws i 0))) ≡ 0 → T (nextPasses i)
-  unfolding hypothesisPasses
-  nextPasses-of i w e =
-      and-both (recordPasses (boardIn atoms ds xs ws i []) (hypothesis (getD ds i 0) (getD xs i 0) (getD ws i 0))) (ltb (getD ws i 0) (2 ^ 24))
-      (zero-recordPasses _ _ e) (lt→ltb (getD ws i 0) (2 ^ 24) w)
+  nextPasses-of i w e = hypothesisPasses-of (boardIn atoms ds xs ws i []) (hypothesisIn ds xs ws i) e w
 
+  -- what the check of one says: its weight has 3 bytes ..
   pub nextPasses-weight : (i : ℕ) → T (nextPasses i) → getD ws i 0 < 2 ^ 24
-  unfolding hypothesisPasses
-  nextPasses-weight i t = ltb→lt (getD ws i 0) (2 ^ 24) (and-right (recordPasses _ _) _ t)
+  nextPasses-weight i t = hypothesisPasses-weight atoms (hypothesesIn ds xs ws i) (hypothesisIn ds xs ws i) t
 
+  -- .. and no check of its record fails
   pub nextPasses-check : (i : ℕ) → T (nextPasses i)
       → firstFailing (fieldChecks (boardIn atoms ds xs ws i []) (hypothesis (getD ds i 0) (getD xs i 0) (getD ws i 0))) ≡ 0
-  unfolding hypothesisPasses
-  nextPasses-check i t = recordPasses-zero _ _ (and-left (recordPasses _ _) _ t)
+  nextPasses-check i t = hypothesisPasses-zero atoms (hypothesesIn ds xs ws i) (hypothesisIn ds xs ws i) t

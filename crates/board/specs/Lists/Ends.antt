@@ -1,29 +1,37 @@
--- Laws of lists that are put together: what `any`, `keep`, `sum`, `product` and `below` make of two lists in a row, or of one element more at
--- the end. Assumes nothing.
+-- Laws of lists that are put together: what `all`, `any`, `keep`, `sum`, `product` and `below` make of two lists in a row, or of one element more
+-- at the end. Assumes nothing.
 use mathlib.Core.Path.{_≡_, refl, sym, ap, _∙_}
 use Prim.Native.Nat.{ℕ, zero, suc, _+_, _*_}
 use native.Mathlib.Nat.{mul-assoc, one-mul, mul-one}
 use native.Mathlib.Omega.{arith}
-use mathlib.Core.Bool.{Bool, true, false, _||_, cond}
+use mathlib.Core.Bool.{Bool, true, false, _&&_, _||_, cond, and-assoc, or-assoc, or-false}
 use mathlib.Core.List.{List, [], _∷_, _++_, map, map-append, append-nil}
-use Rattle.board.specs.Lists.{any, keep, sum, product, numbersFrom, below}
-
--- a third test after two
-or-assoc : (a b c : Bool) → (a || (b || c)) ≡ ((a || b) || c)
-or-assoc true b c = refl
-or-assoc false b c = refl
-
--- a test beside one that fails
-or-false : (a : Bool) → (a || false) ≡ a
-or-false true = refl
-or-false false = refl
+use lib.Dec.{T}
+use Rattle.board.specs.Lists.{any, all, keep, sum, product, numbersFrom, below}
+use Rattle.board.specs.Lists.Tests.{and-both}
 
 module _ {ℓ} {A : Type ℓ} where
+  -- all of two lists in a row pass exactly if all of each do
+  pub all-append : (p : A → Bool) (xs ys : List A) → all p (xs ++ ys) ≡ (all p xs && all p ys)
+  unfolding all
+  all-append p [] ys = refl
+  all-append p (x ∷ xs) ys = rw (all-append p xs ys) (sym (and-assoc (p x) (all p xs) (all p ys)))
+
+  -- one element more that passes: all still do
+  pub all-snoc : (p : A → Bool) (xs : List A) (x : A) → T (all p xs) → T (p x) → T (all p (xs ++ (x ∷ [])))
+  unfolding all
+  all-snoc p xs x h k = rw (all-append p xs (x ∷ [])) (and-both (all p xs) _ h (and-both (p x) true k tt))
+
+  -- some of two lists in a row pass exactly if some of one do
+  pub any-append : (p : A → Bool) (xs ys : List A) → any p (xs ++ ys) ≡ (any p xs || any p ys)
+  unfolding any
+  any-append p [] ys = refl
+  any-append p (x ∷ xs) ys = rw (any-append p xs ys) (sym (or-assoc (p x) (any p xs) (any p ys)))
+
   -- one element more: some pass, or it does
   pub any-snoc : (p : A → Bool) (xs : List A) (x : A) → any p (xs ++ (x ∷ [])) ≡ (any p xs || p x)
   unfolding any
-  any-snoc p [] x = or-false (p x)
-  any-snoc p (y ∷ ys) x = ap (_||_ (p y)) (any-snoc p ys x) ∙ or-assoc (p y) (any p ys) (p x)
+  any-snoc p xs x = any-append p xs (x ∷ []) ∙ ap (_||_ (any p xs)) (or-false (p x))
 
   -- what is kept of two lists in a row
   pub keep-append : (p : A → Bool) (xs ys : List A) → keep p (xs ++ ys) ≡ keep p xs ++ keep p ys

@@ -1,84 +1,15 @@
--- Laws of the functions on lists that go by a test: `any`, `all`, `keep` and `among`, in terms of the elements of the list; and of the tests'
--- own `&&` and `||`. `List·Memᴰ x xs` says that x is an element of xs. Assumes nothing.
+-- Laws of the functions on lists that go by a test: `any`, `all`, `keep`, `isEmpty`, `among` and `sameNumbers`, in terms of the elements of the
+-- list. `List·Memᴰ x xs` says that x is an element of xs. Assumes nothing.
 use mathlib.Core.Path.{_≡_, refl, sym, ap, ap₂, subst}
-use mathlib.Core.Bool.{Bool, true, false, _&&_, _||_, cond}
+use mathlib.Core.Bool.{Bool, true, false, _&&_, _||_, cond, false≢true}
 use mathlib.Core.List.{List, [], _∷_, map, List·Memᴰ, List·Memᴰ·head, List·Memᴰ·tail, List·Memᴰ·not-nil}
 use mathlib.Core.Logic.{_⊎_, inl, inr}
-use Prim.Native.Nat.{ℕ}
+use Prim.Native.Nat.{ℕ, suc, _≤_}
+use native.Mathlib.Omega.{arith}
 use lib.Dec.{T, eqb, eqb→eq, eqb-refl}
-use Rattle.board.specs.Lists.{any, all, keep, among}
-
--- ---- tests
-
--- a test that is true passes
-pub T-of-true : {a : Bool} → a ≡ true → T a
-T-of-true e = subst T (sym e) tt
-
--- a test that passes is true
-pub true-of-T : (a : Bool) → T a → a ≡ true
-true-of-T true h = refl
-true-of-T false h = absurd h
-
--- a test that cannot pass is false
-pub false-of-T : (a : Bool) → (T a → ⊥) → a ≡ false
-false-of-T true h = absurd (h tt)
-false-of-T false h = refl
-
--- two tests that pass together are the same
-pub T-ext : (a b : Bool) → (T a → T b) → (T b → T a) → a ≡ b
-T-ext true b f g = sym (true-of-T b (f tt))
-T-ext false b f g = sym (false-of-T b g)
-
--- two tests that pass, pass as one
-pub and-both : (a b : Bool) → T a → T b → T (a && b)
-and-both true b h k = k
-and-both false b h k = h
-
--- the first of two tests passes
-pub and-left : (a b : Bool) → T (a && b) → T a
-and-left true b h = tt
-and-left false b h = h
-
--- the second of two tests passes
-pub and-right : (a b : Bool) → T (a && b) → T b
-and-right true b h = h
-and-right false b h = absurd h
-
--- the second test matters only where the first passes
-pub and-cong-right : (a : Bool) {b c : Bool} → (T a → b ≡ c) → (a && b) ≡ (a && c)
-and-cong-right true h = h tt
-and-cong-right false h = refl
-
--- the order of two tests before a third does not matter
-pub and-swap : (a b c : Bool) → (a && (b && c)) ≡ (b && (a && c))
-and-swap true b c = refl
-and-swap false true c = refl
-and-swap false false c = refl
-
--- the first of two tests passes, so one does
-pub or-left : (a b : Bool) → T a → T (a || b)
-or-left true b h = tt
-or-left false b h = absurd h
-
--- the second of two tests passes, so one does
-pub or-right : (a b : Bool) → T b → T (a || b)
-or-right true b h = tt
-or-right false b h = h
-
--- one of two tests passes: which
-pub or-cases : (a b : Bool) → T (a || b) → T a ⊎ T b
-or-cases true b h = inl tt
-or-cases false b h = inr h
-
--- where one of two tests passes, so does one of two weaker ones
-pub or-mono : (a b c d : Bool) → (T a → T c) → (T b → T d) → T (a || b) → T (c || d)
-or-mono true b c d f g h = or-left c d (f tt)
-or-mono false b c d f g h = or-right c d (g h)
-
--- where two tests pass, so do two weaker ones
-pub and-mono : (a b c d : Bool) → (T a → T c) → (T b → T d) → T (a && b) → T (c && d)
-and-mono true b c d f g h = and-both c d (f tt) (g h)
-and-mono false b c d f g h = absurd h
+use lib.ListN.{length}
+use Rattle.board.specs.Lists.{any, all, keep, isEmpty, among, sameNumbers}
+use Rattle.board.specs.Lists.Tests.{T-of-true, true-of-T, false-of-T, and-both, and-left, and-right, or-left, or-right, or-cases, or-false-left, or-false-right}
 
 module _ {ℓ} {A : Type ℓ} where
   -- ---- every element passes
@@ -126,6 +57,12 @@ module _ {ℓ} {A : Type ℓ} where
   -- if no element passes, none does
   pub any-none : (p : A → Bool) (xs : List A) → ((x : A) → List·Memᴰ x xs → T (p x) → ⊥) → any p xs ≡ false
   any-none p xs h = false-of-T (any p xs) (λ k. let t = any-find p xs k in h (t .0) (t .1) (t .2))
+
+  -- if none passes, no element does
+  pub none-at : (p : A → Bool) {x : A} {xs : List A} → any p xs ≡ false → List·Memᴰ x xs → p x ≡ false
+  unfolding any
+  none-at p h (List·Memᴰ·head {x = y} {xs = ys} e) = rw e (or-false-left (p y) (any p ys) h)
+  none-at p h (List·Memᴰ·tail {x = y} {xs = ys} m) = none-at p (or-false-right (p y) (any p ys) h) m
 
   -- tests that agree on the elements agree on some
   pub any-cong : {p q : A → Bool} (xs : List A) → ((x : A) → List·Memᴰ x xs → p x ≡ q x) → any p xs ≡ any q xs
@@ -177,6 +114,40 @@ module _ {ℓ} {A : Type ℓ} where
   keep-cong [] h = refl
   keep-cong (x ∷ xs) h = ap₂ (λ (b : Bool) (ks : List A). cond b (x ∷ ks) ks) (h x (List·Memᴰ·head refl)) (keep-cong xs (λ y m. h y (List·Memᴰ·tail m)))
 
+  -- if all pass, all are kept
+  pub keep-all : (p : A → Bool) (xs : List A) → T (all p xs) → keep p xs ≡ xs
+  unfolding all keep
+  keep-all p [] h = refl
+  keep-all p (x ∷ xs) h = simp (true-of-T (p x) (and-left (p x) _ h), keep-all p xs (and-right (p x) _ h))
+
+  -- if none passes, none is kept
+  pub keep-none : (p : A → Bool) (xs : List A) → any p xs ≡ false → keep p xs ≡ []
+  unfolding any keep
+  keep-none p [] h = refl
+  keep-none p (x ∷ xs) h = simp (or-false-left (p x) _ h, keep-none p xs (or-false-right (p x) _ h))
+
+  -- what all pass, those that are kept pass
+  pub all-keep : (p q : A → Bool) (xs : List A) → T (all p xs) → T (all p (keep q xs))
+  all-keep p q xs h = all-of p (keep q xs) (λ x m. all-at p h (keep-at q xs m .0))
+
+  -- no more are kept than there are
+  pub keep-shorter : (p : A → Bool) (xs : List A) → length (keep p xs) ≤ length xs
+  unfolding keep
+  keep-shorter p [] = omega arith
+  keep-shorter p (x ∷ xs) = step (p x) (keep-shorter p xs)
+    where
+      step : (b : Bool) → length (keep p xs) ≤ length xs → length (cond b (x ∷ keep p xs) (keep p xs)) ≤ suc (length xs)
+      step true h = omega arith
+      step false h = omega arith
+
+  -- ---- the empty list
+
+  -- an empty list is the list of nothing
+  pub empty-nil : (xs : List A) → isEmpty xs ≡ true → xs ≡ []
+  unfolding isEmpty
+  empty-nil [] h = refl
+  empty-nil (x ∷ xs) h = absurd (false≢true h)
+
 -- ---- mapped lists
 
 module _ {ℓ κ} {A : Type ℓ} {B : Type κ} where
@@ -203,3 +174,20 @@ among-of {x} m = any-of (eqb x) m (eqb-refl x)
 pub among-at : (x : ℕ) (xs : List ℕ) → T (among x xs) → List·Memᴰ x xs
 unfolding among
 among-at x xs h = let t = any-find (eqb x) xs h in subst (λ (y : ℕ). List·Memᴰ y xs) (sym (eqb→eq x (t .0) (t .2))) (t .1)
+
+-- ---- the same numbers
+
+-- a list has the same numbers as itself
+pub sameNumbers-refl : (xs : List ℕ) → T (sameNumbers xs xs)
+unfolding sameNumbers
+sameNumbers-refl [] = tt
+sameNumbers-refl (x ∷ xs) = and-both (eqb x x) (sameNumbers xs xs) (eqb-refl x) (sameNumbers-refl xs)
+
+-- lists of the same numbers are equal
+pub sameNumbers→eq : (xs ys : List ℕ) → T (sameNumbers xs ys) → xs ≡ ys
+unfolding sameNumbers
+sameNumbers→eq [] [] t = refl
+sameNumbers→eq [] (y ∷ ys) t = absurd t
+sameNumbers→eq (x ∷ xs) [] t = absurd t
+sameNumbers→eq (x ∷ xs) (y ∷ ys) t =
+    ap₂ {C = List ℕ} (λ z zs. z ∷ zs) (eqb→eq x y (and-left (eqb x y) (sameNumbers xs ys) t)) (sameNumbers→eq xs ys (and-right (eqb x y) (sameNumbers xs ys) t))

@@ -1,16 +1,18 @@
 -- Laws of `pad`, a list that is filled up to a length, as an array is whose first places are in use: its length, what stands in it, and what
 -- storing at the first unused places makes of it; and which arrays are padded lists. Assumes nothing.
-use mathlib.Core.Path.{_≡_, refl, ap₂}
-use mathlib.Core.List.{List, [], _∷_, _++_, append-assoc}
+use mathlib.Core.Path.{_≡_, refl, ap₂, _∙_}
+use mathlib.Core.Bool.{Bool, false}
+use mathlib.Core.List.{List, [], _∷_, _++_, append-assoc, append-nil}
 use Prim.Native.Nat.{ℕ, zero, suc, _+_, _-_, _≤_, _<_}
 use native.Mathlib.Nat.{sub-zero, zero-sub, suc-sub-suc}
 use native.Mathlib.Omega.{arith}
 use lib.Dec.{T, eqb, eqb→eq, eqb-refl}
 use lib.ListN.{length, getD, take, drop, set, replicate, length-append, length-drop, length-replicate, take-append-drop}
 use lib.Seq.{length-take-le, take-append-seam, drop-append-add, drop-at, set-append-seam}
-use Rattle.board.specs.Lists.{all, pad}
-use Rattle.board.specs.Lists.Arrays.{all-replicate}
-use Rattle.board.specs.Lists.Laws.{and-left, and-right}
+use Rattle.board.specs.Lists.{all, keep, pad}
+use Rattle.board.specs.Lists.Ends.{all-append, keep-append}
+use Rattle.board.specs.Lists.Laws.{keep-all}
+use Rattle.board.specs.Lists.Tests.{and-both, and-left, and-right}
 
 module _ {ℓ} {A : Type ℓ} where
   -- ---- runs of one value
@@ -29,19 +31,45 @@ module _ {ℓ} {A : Type ℓ} where
   getD-append-replicate (x ∷ xs) m zero a = refl
   getD-append-replicate (x ∷ xs) m (suc i) a = getD-append-replicate xs m i a
 
+  -- a run passes if its value does
+  pub all-replicate : (p : A → Bool) (a : A) → T (p a) → (n : ℕ) → T (all p (replicate n a))
+  unfolding all
+  all-replicate p a t zero = tt
+  all-replicate p a t (suc n) = and-both (p a) (all p (replicate n a)) t (all-replicate p a t n)
+
+  -- nothing is kept of a run whose value does not pass
+  pub keep-replicate : (p : A → Bool) (a : A) → p a ≡ false → (n : ℕ) → keep p (replicate n a) ≡ []
+  unfolding keep
+  keep-replicate p a e zero = refl
+  keep-replicate p a e (suc n) = rw e (keep-replicate p a e n)
+
   -- ---- what a padded list holds
 
+  -- it has the length asked for
   pub length-pad : (n : ℕ) (a : A) (xs : List A) → length xs ≤ n → length (pad n a xs) ≡ n
   unfolding pad
   length-pad n a xs h = simp (length-append, length-replicate) (omega arith)
 
+  -- what the list has, and past its end the filling
   pub getD-pad : (n : ℕ) (a : A) (xs : List A) (i : ℕ) → getD (pad n a xs) i a ≡ getD xs i a
   unfolding pad
   getD-pad n a xs i = getD-append-replicate xs (n - length xs) i a
 
+  -- the list stands in front
   pub take-pad : (n : ℕ) (a : A) (xs : List A) → take (length xs) (pad n a xs) ≡ xs
   unfolding pad
   take-pad n a xs = take-append-seam xs (replicate (n - length xs) a)
+
+  -- every element of the list filled up passes if the list's and the filling do
+  pub all-pad : (p : A → Bool) (n : ℕ) (a : A) (xs : List A) → T (p a) → T (all p xs) → T (all p (pad n a xs))
+  unfolding pad
+  all-pad p n a xs s t = rw all-append (and-both (all p xs) _ t (all-replicate p a s (n - length xs)))
+
+  -- a list whose elements pass, filled up with what does not, and then kept, is the list
+  pub keep-pad : (p : A → Bool) (n : ℕ) (a : A) (xs : List A) → p a ≡ false → T (all p xs) → keep p (pad n a xs) ≡ xs
+  unfolding pad
+  keep-pad p n a xs e t =
+      keep-append p xs (replicate (n - length xs) a) ∙ ap₂ {C = List A} (λ s u. s ++ u) (keep-all p xs t) (keep-replicate p a e (n - length xs)) ∙ append-nil xs
 
   -- ---- storing at the first unused places
 

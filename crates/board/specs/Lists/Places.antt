@@ -1,15 +1,17 @@
--- Laws that go by places: what stands at a place of a list, what some or all elements pass in terms of their places, and the numbers below a bound.
--- `getD xs i d` is what stands at place i of xs. Assumes nothing.
-use Prim.Native.Nat.{ℕ, zero, suc, _+_, _<_}
+-- Laws that go by places: what stands at a place of a list, what some or all elements pass in terms of their places, the numbers below a bound,
+-- and a list as a function of its places. `getD xs i d` is what stands at place i of xs. Assumes nothing.
+use Prim.Native.Nat.{ℕ, zero, suc, _+_, _≤_, _<_}
 use native.Mathlib.Omega.{arith}
-use native.Mathlib.Nat.{not-suc-le-zero}
-use mathlib.Core.Path.{_≡_, refl, sym, ap, _∙_}
+use native.Mathlib.Nat.{not-suc-le-zero, add-zero, suc-add, add-suc}
+use mathlib.Core.Path.{_≡_, refl, sym, ap, ap₂, _∙_}
 use mathlib.Core.Bool.{Bool, true, false}
-use mathlib.Core.List.{List, [], _∷_, List·Memᴰ, List·Memᴰ·head, List·Memᴰ·tail}
+use mathlib.Core.List.{List, [], _∷_, map, List·Memᴰ, List·Memᴰ·head, List·Memᴰ·tail}
 use lib.Dec.{T}
-use lib.ListN.{length, getD}
+use lib.ListN.{length, getD, take}
+use lib.Seq.{length-take-le, getD-take}
 use Rattle.board.specs.Lists.{any, all, numbersFrom, below}
-use Rattle.board.specs.Lists.Laws.{true-of-T, false-of-T, all-at, all-of, any-of, any-none}
+use Rattle.board.specs.Lists.Laws.{all-at, all-of, any-of, any-none}
+use Rattle.board.specs.Lists.Tests.{T-of-true, true-of-T, false-of-T}
 
 module _ {ℓ} {A : Type ℓ} where
   -- what stands at a place is an element
@@ -42,11 +44,13 @@ module _ {ℓ} {A : Type ℓ} where
 
 -- ---- the numbers below a bound
 
+-- there are n numbers from a on
 numbers-length : (a n : ℕ) → length (numbersFrom a n) ≡ n
 unfolding numbersFrom
 numbers-length a zero = refl
 numbers-length a (suc n) = ap suc (numbers-length (suc a) n)
 
+-- at place i stands a + i
 numbers-at : (a n i : ℕ) → i < n → getD (numbersFrom a n) i 0 ≡ a + i
 unfolding numbersFrom
 numbers-at a zero i l = absurd (not-suc-le-zero l)
@@ -75,3 +79,30 @@ module _ (p : ℕ → Bool) (n : ℕ) where
   -- no number below n passes
   pub none-below : ((i : ℕ) → i < n → T (p i) → ⊥) → any p (below n) ≡ false
   none-below h = any-nowhere p (below n) 0 (λ i l t. let k : i < n = rw length-below at l in h i k (rw (getD-below n i k) at t))
+
+  -- every number below n passes
+  pub all-below : ((i : ℕ) → i < n → T (p i)) → T (all p (below n))
+  all-below h = T-of-true (all-everywhere p (below n) 0 (λ i l. let k : i < n = rw length-below at l in rw (getD-below n i k) (h i k)))
+
+-- ---- a list as a function of its places
+
+module _ {ℓ} {A : Type ℓ} where
+  -- a function that gives each place, counted from a on, its element gives the list
+  from-by-place : (f : ℕ → A) (d : A) (a : ℕ) (xs : List A)
+      → ((i : ℕ) → i < length xs → f (a + i) ≡ getD xs i d) → map f (numbersFrom a (length xs)) ≡ xs
+  unfolding numbersFrom
+  from-by-place f d a [] h = refl
+  from-by-place f d a (x ∷ xs) h =
+      ap₂ {C = List A} (λ y ys. y ∷ ys) (ap f (sym (add-zero a)) ∙ h 0 (omega arith))
+      (from-by-place f d (suc a) xs (λ i l. ap f (suc-add a i ∙ sym (add-suc a i)) ∙ h (suc i) (omega arith)))
+
+  -- a function that gives each place its element gives the list
+  pub map-below-by-place : (f : ℕ → A) (d : A) (xs : List A) → ((i : ℕ) → i < length xs → f i ≡ getD xs i d) → map f (below (length xs)) ≡ xs
+  unfolding below
+  map-below-by-place f d xs h = from-by-place f d 0 xs (λ i l. ap f (omega arith) ∙ h i l)
+
+  -- the first k elements by their places are the list's first k
+  pub map-getD-take : (d : A) (xs : List A) (k : ℕ) → k ≤ length xs → map (λ i. getD xs i d) (below k) ≡ take k xs
+  map-getD-take d xs k h =
+      let e : length (take k xs) ≡ k = length-take-le k xs h in
+      rw e at (map-below-by-place (λ i. getD xs i d) d (take k xs) (λ i l. sym (getD-take k xs i d (omega arith))))

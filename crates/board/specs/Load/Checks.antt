@@ -9,7 +9,8 @@ use lib.ListN.{length}
 use lib.Dec.{T, leb, ltb, eqb, lt→ltb}
 use borrow.Author.Tests.{ltb-false, leb-false, eqb-true, eqb-false, not-false}
 use Rattle.board.specs.Lists.{any, all, ascending}
-use Rattle.board.specs.Lists.Passing.{true-passes, and-left, and-right, or-left, or-right, none-all}
+use Rattle.board.specs.Lists.Laws.{all-of, none-at}
+use Rattle.board.specs.Lists.Tests.{T-of-true, and-left, and-right, or-false-left, or-false-right}
 use Rattle.board.specs.Sizes.{mostAtoms, mostDeclarations, mostHypotheses, mostRules, mostW}
 use Rattle.board.specs.Board.{Board, declarationsIn, declaration, isHypothesis, W}
 use Rattle.board.specs.File.{count, hypothesis, rule, finish}
@@ -23,7 +24,7 @@ passed k false rest e = (refl, e)
 
 -- a test that none is at n or above puts all below n
 below-all : (n : ℕ) (xs : List ℕ) → any (leb n) xs ≡ false → T (all (λ a. ltb a n) xs)
-below-all n xs h = none-all (leb n) (λ a. ltb a n) (λ a e. lt→ltb a n (leb-false n a e)) xs h
+below-all n xs h = all-of (λ a. ltb a n) xs (λ a m. lt→ltb a n (leb-false n a (none-at (leb n) h m)))
 
 -- ---- the count
 
@@ -35,11 +36,11 @@ module _ (b : Board) (n : ℕ) (c : firstFailing (fieldChecks b (count n)) ≡ 0
 
   -- "1 to 128 atoms"
   pub count-positive : 1 ≤ n
-  count-positive = omega (arith, eqb-false n 0 (or-left (eqb n 0) _ count-check))
+  count-positive = omega (arith, eqb-false n 0 (or-false-left (eqb n 0) _ count-check))
 
   -- .. and no more
   pub count-room : n ≤ 128
-  count-room = ltb-false mostAtoms n (or-right (eqb n 0) _ count-check)
+  count-room = ltb-false mostAtoms n (or-false-right (eqb n 0) _ count-check)
 
 -- ---- a hypothesis
 
@@ -56,11 +57,11 @@ module _ (b : Board) (d a w : ℕ) (c : firstFailing (fieldChecks b (hypothesis 
 
   -- "0 to 32 declarations"
   pub hypothesis-declaration : d < 32
-  hypothesis-declaration = leb-false mostDeclarations d (or-left (leb mostDeclarations d) _ after-4)
+  hypothesis-declaration = leb-false mostDeclarations d (or-false-left (leb mostDeclarations d) _ after-4)
 
   -- the declaration is the last one or the next
   pub hypothesis-step : (suc d ≡ declarationsIn (b .hypotheses)) ⊎ (d ≡ declarationsIn (b .hypotheses))
-  hypothesis-step = go (eqb (suc d) (declarationsIn (b .hypotheses))) refl (not-false _ (or-right (leb mostDeclarations d) _ after-4))
+  hypothesis-step = go (eqb (suc d) (declarationsIn (b .hypotheses))) refl (not-false _ (or-false-right (leb mostDeclarations d) _ after-4))
     where
       go : (t : Bool) → eqb (suc d) (declarationsIn (b .hypotheses)) ≡ t → (t || eqb d (declarationsIn (b .hypotheses))) ≡ true
           → (suc d ≡ declarationsIn (b .hypotheses)) ⊎ (d ≡ declarationsIn (b .hypotheses))
@@ -90,11 +91,11 @@ module _ (b : Board) (d a w : ℕ) (c : firstFailing (fieldChecks b (hypothesis 
 
   -- the atom is no hypothesis yet
   pub hypothesis-new : isHypothesis b a ≡ false
-  hypothesis-new = or-left (isHypothesis b a) _ after-5
+  hypothesis-new = or-false-left (isHypothesis b a) _ after-5
 
   -- "each of 1 to 16 hypotheses"
   pub hypothesis-room : length (declaration (b .hypotheses) d) < 16
-  hypothesis-room = leb-false mostHypotheses _ (or-right (isHypothesis b a) _ after-5)
+  hypothesis-room = leb-false mostHypotheses _ (or-false-right (isHypothesis b a) _ after-5)
 
   -- the weight is not 0
   pub hypothesis-weight : 1 ≤ w
@@ -111,16 +112,16 @@ module _ (b : Board) (h : ℕ) (places : List ℕ) (c : firstFailing (fieldCheck
 
   -- the head is below the count
   pub rule-head : h < b .atoms
-  rule-head = leb-false (b .atoms) h (or-left (leb (b .atoms) h) _ atoms-4)
+  rule-head = leb-false (b .atoms) h (or-false-left (leb (b .atoms) h) _ atoms-4)
 
   -- and so are the body's atoms
   pub rule-atoms : T (all (λ a. ltb a (b .atoms)) (filled places))
-  rule-atoms = below-all (b .atoms) (filled places) (or-right (leb (b .atoms) h) _ atoms-4)
+  rule-atoms = below-all (b .atoms) (filled places) (or-false-right (leb (b .atoms) h) _ atoms-4)
 
   -- the check of the places
   body-9 : T (filledFirst places && ascending (filled places))
   unfolding fieldChecks
-  body-9 = true-passes (filledFirst places && ascending (filled places)) (not-false _ (passed 8 _ _ (passed 3 _ _ c .1) .0))
+  body-9 = T-of-true {a = filledFirst places && ascending (filled places)} (not-false _ (passed 8 _ _ (passed 3 _ _ c .1) .0))
 
   -- "Filled places come first"
   pub rule-filledFirst : T (filledFirst places)

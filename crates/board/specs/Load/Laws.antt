@@ -7,16 +7,17 @@ use mathlib.Core.List.{List, [], _∷_, _++_, append-nil}
 use lib.ListN.{length}
 use lib.Seq.{append-snoc}
 use lib.Dec.{T, leb, eqb, lt→ltb, le→leb, eqb→eq}
-use Rattle.board.specs.Lists.{isEmpty, pad}
-use Rattle.board.specs.Lists.Passing.{and-both, and-left, and-right, keep-shorter, empty-nil}
+use Rattle.board.specs.Lists.{isEmpty}
+use Rattle.board.specs.Lists.Laws.{keep-shorter, empty-nil}
+use Rattle.board.specs.Lists.Tests.{and-both, and-left, and-right}
 use Rattle.board.specs.Sizes.{mostBody, emptyPlace}
 use Rattle.board.specs.Board.{Board, Hypothesis, Rule, isHypothesis}
-use Rattle.board.specs.File.{Record, count, hypothesis, rule}
+use Rattle.board.specs.File.{Record, count, hypothesis, rule, finish}
 use Rattle.board.specs.Load.{noBoard, firstFailing, fieldChecks, filled, taking}
 use Rattle.board.specs.Load.Checks.{rule-atoms, rule-filledFirst}
-use Rattle.board.specs.Load.Filled.{pad-filled}
 use Rattle.board.specs.Table.{placesOf}
-use Rattle.board.specs.Table.Passes.{recordPasses, hypothesisPasses, hypothesesPass, rulePasses, rulesPass, soFar}
+use Rattle.board.specs.Table.Passes.{recordPasses, hypothesisPasses, hypothesesPass, rulePasses, rulesPass, soFar, boardPasses}
+use Rattle.board.specs.Table.Places.{placesOf-filled}
 
 -- a record passes exactly if no check fails
 pub recordPasses-zero : (b : Board) (r : Record) → T (recordPasses b r) → firstFailing (fieldChecks b r) ≡ 0
@@ -77,6 +78,24 @@ soFar-of b a h r =
     and-both (recordPasses noBoard (count (b .atoms)) && hypothesesPass (b .atoms) [] (b .hypotheses)) _
     (and-both (recordPasses noBoard (count (b .atoms))) _ (zero-recordPasses noBoard (count (b .atoms)) a) h) r
 
+-- ---- the parts of a board that passes
+
+module _ (b : Board) (p : T (boardPasses b)) where
+  -- it is one read so far
+  pub boardPasses-soFar : T (soFar b)
+  unfolding boardPasses
+  boardPasses-soFar = and-left (soFar b) _ p
+
+  -- the end record passes
+  pub boardPasses-finish : firstFailing (fieldChecks b finish) ≡ 0
+  unfolding boardPasses
+  boardPasses-finish = recordPasses-zero b finish (and-right (soFar b) _ p)
+
+-- the parts make the whole
+pub boardPasses-of : (b : Board) → T (soFar b) → firstFailing (fieldChecks b finish) ≡ 0 → T (boardPasses b)
+unfolding boardPasses
+boardPasses-of b h c = and-both (soFar b) _ h (zero-recordPasses b finish c)
+
 -- ---- one record more
 
 -- the count, first of all
@@ -84,11 +103,11 @@ pub soFar-count : (n : ℕ) → firstFailing (fieldChecks noBoard (count n)) ≡
 unfolding taking noBoard hypothesesPass rulesPass
 soFar-count n c = soFar-of (taking noBoard (count n)) c tt tt
 
--- rules are not asked for in a hypothesis' checks
-hypothesis-passes : (b : Board) (h : Hypothesis) → firstFailing (fieldChecks b (hypothesis (h .declaration) (h .atom) (h .weight))) ≡ 0 → h .weight < 2 ^ 24
+-- a hypothesis that no check refuses passes; rules are not asked for in its checks
+pub hypothesisPasses-of : (b : Board) (h : Hypothesis) → firstFailing (fieldChecks b (hypothesis (h .declaration) (h .atom) (h .weight))) ≡ 0 → h .weight < 2 ^ 24
     → T (hypothesisPasses (b .atoms) (b .hypotheses) h)
 unfolding hypothesisPasses fieldChecks isHypothesis
-hypothesis-passes b h c l =
+hypothesisPasses-of b h c l =
     and-both (recordPasses (record { atoms = b .atoms; hypotheses = b .hypotheses; rules = [] }) (hypothesis (h .declaration) (h .atom) (h .weight))) _
     (zero-recordPasses _ (hypothesis (h .declaration) (h .atom) (h .weight)) c) (lt→ltb (h .weight) (2 ^ 24) l)
 
@@ -97,18 +116,17 @@ no-rules : (atoms : ℕ) (hypotheses : List Hypothesis) → T (rulesPass atoms h
 unfolding rulesPass
 no-rules atoms hypotheses = tt
 
--- the places of a rule's record are those of its body
-rule-passes : (b : Board) (h : ℕ) (places : List ℕ) → length places ≡ 8 → firstFailing (fieldChecks b (rule h places)) ≡ 0
+-- a rule that no check refuses passes; the places of its record are those of its body
+rulePasses-of : (b : Board) (h : ℕ) (places : List ℕ) → length places ≡ 8 → firstFailing (fieldChecks b (rule h places)) ≡ 0
     → T (rulePasses (b .atoms) (b .hypotheses) (b .rules) (record { head = h; body = filled places }))
-unfolding rulePasses placesOf filled
-rule-passes b h places l c =
-    and-both (recordPasses b (rule h (pad 8 emptyPlace (filled places))) && leb (length (filled places)) mostBody) _
-    (and-both (recordPasses b (rule h (pad 8 emptyPlace (filled places)))) _
-    (zero-recordPasses b (rule h _) (rw same c)) (le→leb (length (filled places)) 8 (rw l at (keep-shorter (λ p. not (eqb p emptyPlace)) places))))
+unfolding rulePasses filled
+rulePasses-of b h places l c =
+    let new : Rule = record { head = h; body = filled places } in
+    and-both (recordPasses b (rule h (placesOf new)) && leb (length (filled places)) mostBody) _
+    (and-both (recordPasses b (rule h (placesOf new))) _
+    (zero-recordPasses b (rule h _) (rw (placesOf-filled h places l (rule-filledFirst b h places c)) c))
+    (le→leb (length (filled places)) 8 (rw l at (keep-shorter (λ p. not (eqb p emptyPlace)) places))))
     (rule-atoms b h places c)
-  where
-    same : pad 8 emptyPlace (filled places) ≡ places
-    same = rw l at (pad-filled places (rule-filledFirst b h places c))
 
 -- a hypothesis, while there are no rules
 pub soFar-hypothesis : (b : Board) (d a w : ℕ) → T (soFar b) → isEmpty (b .rules) ≡ true → firstFailing (fieldChecks b (hypothesis d a w)) ≡ 0
@@ -116,7 +134,7 @@ pub soFar-hypothesis : (b : Board) (d a w : ℕ) → T (soFar b) → isEmpty (b 
 unfolding taking
 soFar-hypothesis b d a w h e c l =
     soFar-of (taking b (hypothesis d a w)) (soFar-atoms b h)
-    (rw (hypothesesPass-snoc (b .atoms) [] (b .hypotheses) new) (and-both (hypothesesPass (b .atoms) [] (b .hypotheses)) _ (soFar-hypotheses b h) (hypothesis-passes b new c l)))
+    (rw (hypothesesPass-snoc (b .atoms) [] (b .hypotheses) new) (and-both (hypothesesPass (b .atoms) [] (b .hypotheses)) _ (soFar-hypotheses b h) (hypothesisPasses-of b new c l)))
     (rw (empty-nil (b .rules) e) (no-rules (b .atoms) _))
   where
     new : Hypothesis
@@ -128,7 +146,7 @@ pub soFar-rule : (b : Board) (h : ℕ) (places : List ℕ) → T (soFar b) → l
 unfolding taking
 soFar-rule b h places g l c =
     soFar-of (taking b (rule h places)) (soFar-atoms b g) (soFar-hypotheses b g)
-    (rw (rulesPass-snoc (b .atoms) (b .hypotheses) [] (b .rules) new) (and-both (rulesPass (b .atoms) (b .hypotheses) [] (b .rules)) _ (soFar-rules b g) (rule-passes b h places l c)))
+    (rw (rulesPass-snoc (b .atoms) (b .hypotheses) [] (b .rules) new) (and-both (rulesPass (b .atoms) (b .hypotheses) [] (b .rules)) _ (soFar-rules b g) (rulePasses-of b h places l c)))
   where
     new : Rule
     new = record { head = h; body = filled places }

@@ -8,16 +8,16 @@ use mathlib.Core.List.{List}
 use lib.ListN.{length, getD, length-take, length-drop}
 use lib.Dec.{T, ltb}
 use lib.Pow.{areBytes}
-use Rattle.board.specs.Lists.Passing.{and-both}
 use Rattle.board.specs.Answers.{FileAnswer, accepted, refusedAt}
 use Rattle.board.specs.Board.{Board}
 use Rattle.board.specs.File.{Record, Found, count, hypothesis, rule, finish, bodyBytes, knownKind, recordOf, nextPlace, readRecord}
 use Rattle.board.specs.File.Laws.{unknown-high}
+use Rattle.board.specs.File.Bytes.{threeBytes-lt}
 use Rattle.board.specs.Load.{noBoard, misplaced, misplacedAt, firstFailing, fieldChecks, taking, isFinish, atTheEnd, loadFrom, load}
 use Rattle.board.specs.Load.Checks.{count-positive}
-use Rattle.board.specs.Load.Reading.{Read, read-accepted, threeBytes-lt, not-misplaced, placed-count, placed-other, placed-hypothesis}
+use Rattle.board.specs.Load.Laws.{boardPasses-of, soFar-atoms, soFar-count, soFar-hypothesis, soFar-rule}
+use Rattle.board.specs.Load.Reading.{Read, read-accepted, not-misplaced, placed-count, placed-other, placed-hypothesis}
 use Rattle.board.specs.Load.Steps.{load-misplaced, load-unread, load-failing, load-finish, load-next}
-use Rattle.board.specs.Load.Laws.{zero-recordPasses, soFar-atoms, soFar-count, soFar-hypothesis, soFar-rule}
 use Rattle.board.specs.Table.Passes.{soFar, boardPasses}
 
 -- nothing is read yet, or the count and maybe more
@@ -75,18 +75,13 @@ end-same file next b c e = go (ltb next (length file)) e
 refused-never : (number place : ℕ) (b : Board) → refusedAt number place ≡ accepted b → ⊥
 refused-never number place b q = let z : _≡_ {A = ℕ} 0 1 = cc in omega arith
 
--- the end record passes after all others
-passes-all : (b : Board) → T (soFar b) → firstFailing (fieldChecks b finish) ≡ 0 → T (boardPasses b)
-unfolding boardPasses
-passes-all b h c = and-both (soFar b) _ h (zero-recordPasses b finish c)
-
 -- after the end record the board passes
 ended : (b : Board) (r : Record) → isFinish r ≡ true → T (soFar (taking b r)) → firstFailing (fieldChecks b r) ≡ 0 → T (boardPasses b)
 unfolding isFinish taking
 ended b (count n) e h c = absurd (false≢true e)
 ended b (hypothesis d a w) e h c = absurd (false≢true e)
 ended b (rule p places) e h c = absurd (false≢true e)
-ended b finish e h c = passes-all b h c
+ended b finish e h c = boardPasses-of b h c
 
 -- a board that is accepted from some place on passes
 pub loadFrom-passes : (n : ℕ) (file : List ℕ) → T (areBytes file) → (at : ℕ) (b : Board) → Begun b → (c : Board) → loadFrom n file at b ≡ accepted c → T (boardPasses c)

@@ -1,5 +1,5 @@
--- Laws of a rule's places, one place at a time: what the first place adds to `filled`, to `filledFirst`, and to the tests that go over the
--- filled places. Assumes nothing.
+-- Laws of a rule's places, one place at a time: what the first place adds to `filledFirst` and to the tests that go over the filled places.
+-- Assumes nothing.
 use mathlib.Core.Path.{_≡_, refl, sym, ap}
 use mathlib.Core.Bool.{Bool, true, false, not, _&&_, cond}
 use mathlib.Core.List.{List, [], _∷_}
@@ -8,21 +8,12 @@ use native.Mathlib.Omega.{arith}
 use lib.Dec.{leb, eqb}
 use borrow.Author.Tests.{le-leb, lt-leb, ne-eqb}
 use Rattle.board.specs.Lists.{any, keep, isEmpty, ascending}
-use Rattle.board.specs.Lists.Laws.{and-swap}
 use Rattle.board.specs.Lists.Ascending.{ascendingFrom, ascending-next, ascending-from-zero, isEmpty-ascending}
+use Rattle.board.specs.Lists.Tests.{and-swap}
 use Rattle.board.specs.Sizes.{emptyPlace}
 use Rattle.board.specs.File.{lowBytes}
 use Rattle.board.specs.Load.{filled, filledFirst}
-
--- an empty place is left out
-pub filled-empty : {p : ℕ} (ps : List ℕ) → p ≡ emptyPlace → filled (p ∷ ps) ≡ filled ps
-unfolding filled keep
-filled-empty ps e = rw e
-
--- a filled place is kept
-pub filled-full : {p : ℕ} (ps : List ℕ) → (p ≡ emptyPlace → ⊥) → filled (p ∷ ps) ≡ p ∷ filled ps
-unfolding filled keep
-filled-full {p} ps h = rw (ne-eqb p emptyPlace h)
+use Rattle.board.specs.Load.Filled.{filled-empty, filled-full}
 
 -- ---- some filled place is at a limit or above
 

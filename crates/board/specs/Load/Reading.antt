@@ -1,32 +1,17 @@
 -- What it tells that a record was read, and that it is not misplaced. Assumes nothing.
-use Prim.Native.Nat.{ℕ, zero, suc, _+_, _^_, _≤_, _<_}
+use Prim.Native.Nat.{ℕ, _+_, _≤_, _<_}
 use native.Mathlib.Omega.{arith}
 use mathlib.Core.Path.{_≡_, refl}
 use mathlib.Core.Bool.{Bool, true, false, not, cond, true≢false}
-use mathlib.Core.List.{List, [], _∷_}
+use mathlib.Core.List.{List}
 use lib.ListN.{length, getD}
-use lib.Dec.{T, ltb, leb, eqb, ltb→lt}
-use lib.Pow.{areBytes}
+use lib.Dec.{leb, eqb}
 use borrow.Author.Tests.{leb-true, leb-false, eqb-true, lt-ltb, not-false}
 use Rattle.board.specs.Lists.{isEmpty}
-use Rattle.board.specs.Lists.Passing.{and-left, and-right}
 use Rattle.board.specs.Answers.{accepted, refusedAt}
 use Rattle.board.specs.Board.{Board}
-use Rattle.board.specs.File.{Found, threeBytes, knownKind, recordOf, nextPlace, readRecord}
+use Rattle.board.specs.File.{Found, knownKind, recordOf, nextPlace, readRecord}
 use Rattle.board.specs.Load.{misplaced, misplacedAt}
-
--- ---- bytes
-
--- every byte is below 256
-pub byte-at : (file : List ℕ) → T (areBytes file) → (i : ℕ) → getD file i 0 < 256
-byte-at [] h i = omega arith
-byte-at (x ∷ file) h zero = ltb→lt x 256 (and-left (ltb x 256) _ h)
-byte-at (x ∷ file) h (suc i) = byte-at file (and-right (ltb x 256) _ h) i
-
--- a weight of three bytes is below 2 ^ 24
-pub threeBytes-lt : (file : List ℕ) → T (areBytes file) → (at : ℕ) → threeBytes file at < 2 ^ 24
-unfolding threeBytes
-threeBytes-lt file h at = omega (arith, byte-at file h at, byte-at file h (at + 1), byte-at file h (at + 2))
 
 -- ---- a record that was read
 

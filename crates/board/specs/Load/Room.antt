@@ -1,21 +1,19 @@
--- A board read so far has room: no list of it is longer than its array, and one more record that passes fits in. Assumes nothing.
+-- A board read so far has room: no list of it is longer than its array, and it had room for its last record. Assumes nothing.
 use Prim.Native.Nat.{ℕ, _≤_, _<_}
 use native.Mathlib.Omega.{arith}
-use mathlib.Core.Path.{_≡_, sym, _∙_}
-use mathlib.Core.List.{List, [], _∷_, _++_, map}
+use mathlib.Core.List.{List, [], _∷_, map}
 use lib.ListN.{length, length-append, length-map}
-use lib.Dec.{T, ltb, lt→ltb}
+use lib.Dec.{T, ltb}
 use Rattle.board.specs.Lists.{all}
-use Rattle.board.specs.Lists.Passing.{all-map, all-snoc}
-use Rattle.board.specs.Board.{Board, Hypothesis, declarationsIn, isHypothesis}
+use Rattle.board.specs.Lists.Laws.{all-map}
+use Rattle.board.specs.Board.{Board, Hypothesis, declarationsIn}
 use Rattle.board.specs.File.{hypothesis, rule}
-use Rattle.board.specs.Load.{noBoard, filled, firstFailing, fieldChecks, taking}
-use Rattle.board.specs.Load.Checks.{count-positive, count-room, hypothesis-atom, hypothesis-new, rule-room}
+use Rattle.board.specs.Load.{noBoard, filled, taking}
+use Rattle.board.specs.Load.Checks.{count-positive, count-room}
+use Rattle.board.specs.Load.Hypotheses.{hypotheses-declarations, hypotheses-below, hypotheses-distinct}
 use Rattle.board.specs.Load.Laws.{soFar-atoms, soFar-hypotheses, soFar-rules}
-use Rattle.board.specs.Load.Hypotheses.{hypotheses-declarations, hypotheses-below, hypotheses-distinct, isAtomOf-among}
 use Rattle.board.specs.Load.Rules.{rules-length}
-use Rattle.board.specs.Accepted.{distinct}
-use Rattle.board.specs.Accepted.Distinct.{distinct-snoc, distinct-room}
+use Rattle.board.specs.Accepted.Distinct.{distinct-room}
 use Rattle.board.specs.Table.Passes.{hypothesesPass, soFar}
 
 -- every atom of the hypotheses is below the count
@@ -39,21 +37,6 @@ soFar-room b h =
       count-positive noBoard (b .atoms) (soFar-atoms b h),
       hypotheses-declarations _ _ (soFar-hypotheses b h),
     )
-
--- room for one hypothesis more that passes
-pub soFar-hypothesis-room : (b : Board) (d a w : ℕ) → T (soFar b) → firstFailing (fieldChecks b (hypothesis d a w)) ≡ 0 → length (b .hypotheses) < 128
-unfolding isHypothesis
-soFar-hypothesis-room b d a w h c =
-    let t : T (hypothesesPass (b .atoms) [] (b .hypotheses)) = soFar-hypotheses b h in
-    let apart : T (distinct (map (λ (k : Hypothesis). k .atom) (b .hypotheses) ++ (a ∷ []))) =
-    distinct-snoc _ a (hypotheses-distinct _ _ t) (sym (isAtomOf-among (b .hypotheses) a) ∙ hypothesis-new b d a w c) in
-    let low : T (all (λ x. ltb x (b .atoms)) (map (λ (k : Hypothesis). k .atom) (b .hypotheses) ++ (a ∷ []))) =
-    all-snoc (λ x. ltb x (b .atoms)) _ a (atoms-below _ _ t) (lt→ltb a (b .atoms) (hypothesis-atom b d a w c)) in
-    omega (arith, soFar-room b h .2, simp (length-append, length-map) at (distinct-room (b .atoms) _ apart low))
-
--- room for one rule more that passes
-pub soFar-rule-room : (b : Board) (h : ℕ) (places : List ℕ) → firstFailing (fieldChecks b (rule h places)) ≡ 0 → length (b .rules) < 256
-soFar-rule-room b h places c = rule-room b h places c
 
 -- a board read so far with one hypothesis more had room for it
 pub room-after-hypothesis : (b : Board) (d a w : ℕ) → T (soFar (taking b (hypothesis d a w))) → length (b .hypotheses) < 128

@@ -6,19 +6,20 @@ use mathlib.Core.Bool.{not, _&&_}
 use mathlib.Core.List.{List, [], _∷_, _++_, append-nil}
 use lib.ListN.{length, length-append}
 use lib.Seq.{append-snoc}
-use lib.Dec.{T, ltb, leb, lt→ltb, ltb→lt}
+use lib.Dec.{T, ltb, leb, lt→ltb}
 use Rattle.board.specs.Lists.{all, ascending}
-use Rattle.board.specs.Lists.Passing.{and-five, and-left, and-right, all-snoc, all-implies}
-use Rattle.board.specs.Sizes.{mostBody, emptyPlace}
+use Rattle.board.specs.Lists.Ends.{all-snoc}
+use Rattle.board.specs.Lists.Tests.{and-five, and-left, and-right}
+use Rattle.board.specs.Sizes.{mostBody}
 use Rattle.board.specs.Board.{Board, Hypothesis, Rule, isHypothesis}
 use Rattle.board.specs.File.{rule}
 use Rattle.board.specs.Load.{firstFailing, fieldChecks, filled}
 use Rattle.board.specs.Load.Checks.{rule-head, rule-ascending, rule-no-hypothesis, rule-below-head, rule-room}
-use Rattle.board.specs.Load.Filled.{filled-pad}
 use Rattle.board.specs.Load.Laws.{recordPasses-zero}
 use Rattle.board.specs.Accepted.{ruleRight}
 use Rattle.board.specs.Table.{placesOf}
 use Rattle.board.specs.Table.Passes.{recordPasses, rulePasses, rulesPass}
+use Rattle.board.specs.Table.Places.{filled-placesOf}
 
 -- the board after these rules
 abbrev pub afterRules : ℕ → List Hypothesis → List Rule → Board
@@ -44,18 +45,12 @@ module _ (atoms : ℕ) (hypotheses : List Hypothesis) (before : List Rule) (r : 
   unfolding rulePasses
   rulePasses-atoms = and-right (recordPasses (afterRules atoms hypotheses before) (rule (r .head) (placesOf r)) && leb (length (r .body)) mostBody) _ t
 
-  -- its places, filled, are its body
-  pub rulePasses-filled : atoms ≤ 128 → filled (placesOf r) ≡ r .body
-  unfolding placesOf
-  rulePasses-filled l =
-      filled-pad mostBody (r .body) (all-implies _ (λ a. ltb a emptyPlace) (λ a h. lt→ltb a emptyPlace (omega (arith, ltb→lt a atoms h))) (r .body) rulePasses-atoms)
-
 -- a rule that passes is right
 pub rulePasses-right : (b : Board) (before : List Rule) (r : Rule) → b .atoms ≤ 128 → T (rulePasses (b .atoms) (b .hypotheses) before r) → T (ruleRight b r)
 unfolding ruleRight isHypothesis
 rulePasses-right b before r l t =
     let c : firstFailing (fieldChecks (afterRules (b .atoms) (b .hypotheses) before) (rule (r .head) (placesOf r))) ≡ 0 = rulePasses-zero _ _ before r t in
-    let e : filled (placesOf r) ≡ r .body = rulePasses-filled _ _ before r t l in
+    let e : filled (placesOf r) ≡ r .body = filled-placesOf (b .atoms) l r (rulePasses-atoms _ _ before r t) in
     let one : T (ltb (r .head) (b .atoms)) = lt→ltb (r .head) (b .atoms) (rule-head _ _ _ c) in
     let two : T (not (isHypothesis b (r .head))) = rw (rule-no-hypothesis _ _ _ c) tt in
     let four : T (all (λ a. ltb a (r .head)) (r .body)) = rw e at (rule-below-head _ _ _ c) in

@@ -1,77 +1,74 @@
 -- The arrays of a board's table give the board back, and two tables that are the same field by field are equal. Assumes nothing.
 use mathlib.Core.Path.{_≡_, refl, sym, ap, _∙_}
 use Prim.Native.Nat.{ℕ, _*_, _≤_, _<_}
-use native.Mathlib.Omega.{arith}
-use mathlib.Core.Bool.{Bool, true, not, _&&_}
+use mathlib.Core.Bool.{Bool, true, _&&_}
 use mathlib.Core.List.{List, [], map}
-use lib.Dec.{T, eqb, ltb, eqb→eq, eqb-refl, ltb→lt}
-use lib.ListN.{length, getD, take, drop, length-map, List·getD-map}
-use borrow.Author.Tests.{ne-eqb}
-use Rattle.board.specs.Lists.{all, pad, below, sameNumbers}
-use Rattle.board.specs.Lists.Arrays.{map-below-by-index, getD-pad-within, all-weaken, keep-pad, take-drop-flatten, sameNumbers-refl, sameNumbers→eq}
-use Rattle.board.specs.Lists.Laws.{and-left, and-right, true-of-T}
-use Rattle.board.specs.Lists.Padding.{length-pad}
-use Rattle.board.specs.Sizes.{mostAtoms, mostRules, mostBody, emptyPlace}
+use lib.Dec.{T, eqb, eqb→eq, eqb-refl}
+use lib.ListN.{length, getD, take, drop, List·getD-map}
+use Rattle.board.specs.Lists.{pad, below, sameNumbers}
+use Rattle.board.specs.Lists.Flatten.{take-drop-flatten}
+use Rattle.board.specs.Lists.Laws.{sameNumbers-refl, sameNumbers→eq}
+use Rattle.board.specs.Lists.Padding.{getD-pad}
+use Rattle.board.specs.Lists.Places.{map-below-by-place}
+use Rattle.board.specs.Lists.Tests.{and-left, and-right, true-of-T}
+use Rattle.board.specs.Sizes.{mostAtoms, mostRules, mostBody}
 use Rattle.board.specs.Board.{Board, Hypothesis, Rule}
-use Rattle.board.specs.Load.{filled}
+use Rattle.board.specs.Load.{noBoard, filled}
+use Rattle.board.specs.Load.Checks.{count-room}
+use Rattle.board.specs.Load.Laws.{soFar-atoms, soFar-rules, boardPasses-soFar}
+use Rattle.board.specs.Lent.{hypothesesIn, boardIn}
 use Rattle.board.specs.Table.{hypothesisAt, ruleAt, boardOf, placesOf, tableOf, sameTable}
-use Rattle.board.specs.Table.Passes.{boardPasses}
-use Rattle.board.specs.Table.Bounds.{RuleBounds, rules-bounds, count-bounds, Passing, passing}
+use Rattle.board.specs.Table.Bounds.{RuleBounds, rules-bounds}
+use Rattle.board.specs.Table.Passes.{soFar, boardPasses}
+use Rattle.board.specs.Table.Places.{length-placesOf, filled-placesOf}
 use Rattle.board.specs.declared.Table.{Table}
 
 -- ---- the hypotheses
 
--- what stands past a list's end
-noHypothesis : Hypothesis
+-- past the end of a list of hypotheses
+abbrev pub noHypothesis : Hypothesis
 noHypothesis = record { declaration = 0; atom = 0; weight = 0 }
 
-noRule : Rule
+-- past the end of a list of rules
+abbrev pub noRule : Rule
 noRule = record { head = 0; body = [] }
 
--- element i of an array that holds a field of each
-field-at : {A : Type 0} (f : A → ℕ) (n : ℕ) (xs : List A) (d : A) → f d ≡ 0 → (i : ℕ) → i < length xs → getD (pad n 0 (map f xs)) i 0 ≡ f (getD xs i d)
-field-at f n xs d e i l =
-    getD-pad-within n 0 (map f xs) i 0 (rw length-map l) ∙ ap (getD (map f xs) i) (sym e) ∙ List·getD-map f xs i d
+-- a field, out of its padded array
+field-at : {A : Type 0} (f : A → ℕ) (d : A) → f d ≡ 0 → (n : ℕ) (xs : List A) (i : ℕ) → getD (pad n 0 (map f xs)) i 0 ≡ f (getD xs i d)
+field-at f d z n xs i = getD-pad n 0 (map f xs) i ∙ ap (getD (map f xs) i) (sym z) ∙ List·getD-map f xs i d
 
-hypotheses-back : (b : Board) → map (hypothesisAt (tableOf b)) (below (length (b .hypotheses))) ≡ b .hypotheses
-unfolding hypothesisAt tableOf noHypothesis
-hypotheses-back b = map-below-by-index (hypothesisAt (tableOf b)) noHypothesis (b .hypotheses) at-index
-  where
-    at-index : (i : ℕ) → i < length (b .hypotheses) → hypothesisAt (tableOf b) i ≡ getD (b .hypotheses) i noHypothesis
-    at-index i l =
-        let d : getD (tableOf b .declaration) i 0 ≡ getD (b .hypotheses) i noHypothesis .declaration =
-        field-at (λ (h : Hypothesis). h .declaration) mostAtoms (b .hypotheses) noHypothesis refl i l in
-        let a : getD (tableOf b .atom) i 0 ≡ getD (b .hypotheses) i noHypothesis .atom =
-        field-at (λ (h : Hypothesis). h .atom) mostAtoms (b .hypotheses) noHypothesis refl i l in
-        let w : getD (tableOf b .weight) i 0 ≡ getD (b .hypotheses) i noHypothesis .weight =
-        field-at (λ (h : Hypothesis). h .weight) mostAtoms (b .hypotheses) noHypothesis refl i l in
-        λ j. record { declaration = d j; atom = a j; weight = w j }
+-- hypotheses with equal fields are equal
+hypothesis-path : {d d′ a a′ w w′ : ℕ} → d ≡ d′ → a ≡ a′ → w ≡ w′
+    → Path Hypothesis (record { declaration = d; atom = a; weight = w }) (record { declaration = d′; atom = a′; weight = w′ })
+hypothesis-path p q r = λ i. record { declaration = p i; atom = q i; weight = r i }
+
+-- the hypotheses in the table of a board
+pub hypothesesIn-tableOf : (b : Board) (t : Table) → t ≡ tableOf b → hypothesesIn (t .declaration) (t .atom) (t .weight) (t .hypotheses) ≡ b .hypotheses
+unfolding hypothesesIn tableOf
+hypothesesIn-tableOf b t e =
+    ap (λ (u : Table). hypothesesIn (u .declaration) (u .atom) (u .weight) (u .hypotheses)) e
+    ∙ map-below-by-place _ noHypothesis (b .hypotheses) (λ i l. hypothesis-path (field-at (λ x. x .declaration) noHypothesis refl mostAtoms (b .hypotheses) i)
+    (field-at (λ x. x .atom) noHypothesis refl mostAtoms (b .hypotheses) i) (field-at (λ x. x .weight) noHypothesis refl mostAtoms (b .hypotheses) i))
+
+-- the board itself, with any rules
+pub boardIn-tableOf : (b : Board) (t : Table) → t ≡ tableOf b → boardIn (t .atoms) (t .declaration) (t .atom) (t .weight) (t .hypotheses) (b .rules) ≡ b
+unfolding tableOf
+boardIn-tableOf b t e =
+    let k : t .atoms ≡ b .atoms = ap (λ (u : Table). u .atoms) e in
+    let hs = hypothesesIn-tableOf b t e in
+    λ i. record { atoms = k i; hypotheses = hs i; rules = b .rules }
 
 -- ---- the rules
 
--- the places of a body of at most 8 atoms are 8
-pub length-placesOf : (r : Rule) → length (r .body) ≤ 8 → length (placesOf r) ≡ 8
-unfolding placesOf
-length-placesOf r h = length-pad mostBody emptyPlace (r .body) h
-
--- the filled places are the body
-pub filled-placesOf : (atoms : ℕ) → atoms ≤ 128 → (r : Rule) → T (all (λ a. ltb a atoms) (r .body)) → filled (placesOf r) ≡ r .body
-unfolding filled placesOf
-filled-placesOf atoms h r t =
-    keep-pad (λ p. not (eqb p emptyPlace)) mostBody emptyPlace (r .body) refl
-    (all-weaken (λ a. ltb a atoms) (λ p. not (eqb p emptyPlace)) not-empty (r .body) t)
-  where
-    not-empty : (a : ℕ) → T (ltb a atoms) → T (not (eqb a emptyPlace))
-    not-empty a l = rw (ne-eqb a emptyPlace (λ e. let k : a < atoms = ltb→lt a atoms l in omega arith)) tt
-
+-- the rules in the table of a board
 rules-back : (b : Board) → b .atoms ≤ 128 → ((i : ℕ) → i < length (b .rules) → RuleBounds (b .atoms) (getD (b .rules) i noRule))
     → map (ruleAt (tableOf b)) (below (length (b .rules))) ≡ b .rules
-unfolding ruleAt tableOf pad noRule
-rules-back b h bounds = map-below-by-index (ruleAt (tableOf b)) noRule (b .rules) at-index
+unfolding ruleAt tableOf pad
+rules-back b h bounds = map-below-by-place (ruleAt (tableOf b)) noRule (b .rules) at-index
   where
     at-index : (i : ℕ) → i < length (b .rules) → ruleAt (tableOf b) i ≡ getD (b .rules) i noRule
     at-index i l =
-        let k : getD (tableOf b .head) i 0 ≡ getD (b .rules) i noRule .head = field-at (λ (r : Rule). r .head) mostRules (b .rules) noRule refl i l in
+        let k : getD (tableOf b .head) i 0 ≡ getD (b .rules) i noRule .head = field-at (λ (r : Rule). r .head) noRule refl mostRules (b .rules) i in
         let s : take mostBody (drop (mostBody * i) (tableOf b .body)) ≡ placesOf (getD (b .rules) i noRule) =
         take-drop-flatten mostBody placesOf noRule (b .rules) _ (λ j m. length-placesOf (getD (b .rules) j noRule) (bounds j m .size)) i l in
         let p : filled (take mostBody (drop (mostBody * i) (tableOf b .body))) ≡ getD (b .rules) i noRule .body =
@@ -80,13 +77,13 @@ rules-back b h bounds = map-below-by-index (ruleAt (tableOf b)) noRule (b .rules
 
 -- the table of a board that passes has that board
 pub boardOf-tableOf : (b : Board) → T (boardPasses b) → boardOf (tableOf b) ≡ b
-unfolding boardOf tableOf
+unfolding boardOf hypothesisAt hypothesesIn tableOf
 boardOf-tableOf b t =
-    let p : Passing b = passing b t in
+    let s : T (soFar b) = boardPasses-soFar b t in
     let r : map (ruleAt (tableOf b)) (below (length (b .rules))) ≡ b .rules =
-    rules-back b (count-bounds _ (b .atoms) (p .count-passes) .1)
-    (λ i l. rules-bounds (b .atoms) (b .hypotheses) [] (b .rules) (p .rules-pass) i noRule l) in
-    λ j. record { atoms = b .atoms; hypotheses = hypotheses-back b j; rules = r j }
+    rules-back b (count-room noBoard (b .atoms) (soFar-atoms b s))
+    (λ i l. rules-bounds (b .atoms) (b .hypotheses) [] (b .rules) (soFar-rules b s) i noRule l) in
+    λ j. record { atoms = b .atoms; hypotheses = hypothesesIn-tableOf b (tableOf b) refl j; rules = r j }
 
 -- ---- tables field by field
 

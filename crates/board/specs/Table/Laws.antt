@@ -8,22 +8,27 @@ use mathlib.Core.List.{List, [], _∷_, _++_, map, flatten}
 use lib.Dec.{T, ltb, ltb→lt, lt→ltb}
 use lib.Pow.{areBytes}
 use borrow.Author.Tests.{lt-ltb}
-use Rattle.board.specs.Lists.Arrays.{all-weaken, all-pad, areBytes-append, areBytes-all, areBytes-flatten}
-use Rattle.board.specs.Lists.Laws.{and-both, and-left, and-right, T-ext}
+use Rattle.board.specs.Lists.Laws.{all-mono}
+use Rattle.board.specs.Lists.Padding.{all-pad}
+use Rattle.board.specs.Lists.Tests.{and-both, and-left, and-right, T-ext}
 use Rattle.board.specs.Sizes.{mostBody, emptyPlace}
 use Rattle.board.specs.Answers.{FileAnswer, accepted, refusedAt}
 use Rattle.board.specs.Board.{Board, Hypothesis, Rule}
 use Rattle.board.specs.File.{lowBytes}
+use Rattle.board.specs.File.Bytes.{areBytes-append, areBytes-all, areBytes-flatten}
 use Rattle.board.specs.Load.{noBoard, load}
+use Rattle.board.specs.Load.Checks.{count-room}
+use Rattle.board.specs.Load.Laws.{soFar-atoms, soFar-hypotheses, soFar-rules, boardPasses-soFar}
 use Rattle.board.specs.Table.{boardOf, tableOf, placesOf, Loads, hypothesisBytes, ruleBytes, fileOf, sameTable, loadsTo, isTable}
-use Rattle.board.specs.Table.Passes.{boardPasses}
-use Rattle.board.specs.Table.Bounds.{HypothesisBounds, RuleBounds, count-bounds, hypotheses-bounds, rules-bounds, Passing, passing}
-use Rattle.board.specs.Table.Arrays.{boardOf-tableOf, sameTable-refl, sameTable→eq}
+use Rattle.board.specs.Table.Arrays.{noHypothesis, noRule, boardOf-tableOf, sameTable-refl, sameTable→eq}
+use Rattle.board.specs.Table.Bounds.{HypothesisBounds, RuleBounds, hypotheses-bounds, rules-bounds}
+use Rattle.board.specs.Table.Passes.{soFar, boardPasses}
 use Rattle.board.specs.Table.Written.{load-written}
 use Rattle.board.specs.declared.Table.{Table}
 
 -- ---- the file's bytes
 
+-- a hypothesis within its bounds is written in bytes
 hypothesis-bytes : (atoms : ℕ) → atoms ≤ 128 → (h : Hypothesis) → HypothesisBounds atoms h → T (areBytes (hypothesisBytes h))
 unfolding hypothesisBytes lowBytes
 hypothesis-bytes atoms few h bounds =
@@ -35,12 +40,13 @@ hypothesis-bytes atoms few h bounds =
       lt-ltb (h .weight / 256 / 256 % 256) 256 (omega arith),
     ) tt
 
+-- a rule within its bounds is written in bytes
 rule-bytes : (atoms : ℕ) → atoms ≤ 128 → (r : Rule) → RuleBounds atoms r → T (areBytes (ruleBytes r))
 unfolding ruleBytes placesOf
 rule-bytes atoms few r bounds =
     rw (lt-ltb (r .head) 256 (omega arith))
     (areBytes-all (placesOf r)
-    (all-pad (λ x. ltb x 256) mostBody emptyPlace (r .body) tt (all-weaken (λ a. ltb a atoms) (λ x. ltb x 256) byte (r .body) (bounds .body))))
+    (all-pad (λ x. ltb x 256) mostBody emptyPlace (r .body) tt (all-mono (λ a. ltb a atoms) (λ x. ltb x 256) (r .body) (λ a m. byte a) (bounds .body))))
   where
     byte : (a : ℕ) → T (ltb a atoms) → T (ltb a 256)
     byte a l = lt→ltb a 256 (let k : a < atoms = ltb→lt a atoms l in omega arith)
@@ -49,19 +55,17 @@ rule-bytes atoms few r bounds =
 pub written-bytes : (b : Board) → T (boardPasses b) → T (areBytes (fileOf b))
 unfolding fileOf
 written-bytes b t =
-    let p : Passing b = passing b t in
-    let few : b .atoms ≤ 128 = count-bounds noBoard (b .atoms) (p .count-passes) .1 in
-    let h : Hypothesis = record { declaration = 0; atom = 0; weight = 0 } in
-    let r : Rule = record { head = 0; body = [] } in
+    let s : T (soFar b) = boardPasses-soFar b t in
+    let few : b .atoms ≤ 128 = count-room noBoard (b .atoms) (soFar-atoms b s) in
     let hs : List ℕ = flatten (map hypothesisBytes (b .hypotheses)) in
     let rs : List ℕ = flatten (map ruleBytes (b .rules)) in
     rw (lt-ltb (b .atoms) 256 (omega arith))
     (areBytes-append (hs ++ rs) (4 ∷ [])
     (areBytes-append hs rs
-    (areBytes-flatten hypothesisBytes h (b .hypotheses)
-    (λ i l. hypothesis-bytes (b .atoms) few _ (hypotheses-bounds (b .atoms) [] (b .hypotheses) (p .hypotheses-pass) i h l)))
-    (areBytes-flatten ruleBytes r (b .rules)
-    (λ i l. rule-bytes (b .atoms) few _ (rules-bounds (b .atoms) (b .hypotheses) [] (b .rules) (p .rules-pass) i r l))))
+    (areBytes-flatten hypothesisBytes noHypothesis (b .hypotheses)
+    (λ i l. hypothesis-bytes (b .atoms) few _ (hypotheses-bounds (b .atoms) [] (b .hypotheses) (soFar-hypotheses b s) i noHypothesis l)))
+    (areBytes-flatten ruleBytes noRule (b .rules)
+    (λ i l. rule-bytes (b .atoms) few _ (rules-bounds (b .atoms) (b .hypotheses) [] (b .rules) (soFar-rules b s) i noRule l))))
     tt)
 
 -- ---- the test for tables

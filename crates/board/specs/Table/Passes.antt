@@ -1,8 +1,8 @@
 -- When a board is one that some file loads to, read off the board itself: every hypothesis passes the field checks after those before it, every rule
 -- after all hypotheses and the rules before it, and the end record passes. For the proofs: document 01 says what loads, and the laws beside this
 -- file show that a board passes exactly if some file loads to it. Assumes nothing.
-use Prim.Native.Nat.{ℕ, zero, suc, _^_}
-use mathlib.Core.Bool.{Bool, true, false, _&&_}
+use Prim.Native.Nat.{ℕ, _^_}
+use mathlib.Core.Bool.{Bool, true, _&&_}
 use mathlib.Core.List.{List, [], _∷_, _++_}
 use lib.Dec.{eqb, ltb, leb}
 use lib.ListN.{length}

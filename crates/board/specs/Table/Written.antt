@@ -3,24 +3,29 @@ use mathlib.Core.Path.{_≡_, refl, ap, _∙_}
 use Prim.Native.Nat.{ℕ, zero, suc, _+_, _*_, _/_, _%_, _^_, _≤_, _<_}
 use native.Mathlib.Nat.{add-assoc}
 use native.Mathlib.Omega.{arith}
-use mathlib.Core.Bool.{Bool, false, _&&_, and-false}
+use mathlib.Core.Bool.{Bool, false, and-false}
 use mathlib.Core.List.{List, [], _∷_, _++_, map, flatten, append-assoc, append-nil}
-use lib.Dec.{T, eqb, ltb, leb, eqb→eq}
+use lib.Dec.{T, eqb}
 use lib.ListN.{length, getD, length-append}
 use lib.Seq.{getD-append-seam, getD-append-add, drop-append-add, take-at, append-snoc}
 use borrow.Author.Tests.{le-ltb, ne-eqb}
-use Rattle.board.specs.Lists.{all, isEmpty}
-use Rattle.board.specs.Lists.Arrays.{length-le-flatten}
-use Rattle.board.specs.Lists.Laws.{and-left, and-right}
+use Rattle.board.specs.Lists.{isEmpty}
+use Rattle.board.specs.Lists.Flatten.{length-le-flatten}
+use Rattle.board.specs.Lists.Tests.{and-left, and-right}
 use Rattle.board.specs.Answers.{accepted}
 use Rattle.board.specs.Board.{Board, Hypothesis, Rule}
-use Rattle.board.specs.File.{Record, count, hypothesis, rule, finish, bodyBytes, threeBytes, lowBytes, recordOf, nextPlace, readRecord}
+use Rattle.board.specs.File.{count, hypothesis, rule, finish, bodyBytes, threeBytes, lowBytes, recordOf, nextPlace, readRecord}
 use Rattle.board.specs.File.Laws.{read-whole, known}
 use Rattle.board.specs.Load.{noBoard, misplaced, misplacedAt, fieldChecks, firstFailing, filled, taking, isFinish, atTheEnd, loadFrom, load}
+use Rattle.board.specs.Load.Checks.{count-positive, count-room}
+use Rattle.board.specs.Load.Hypotheses.{hypothesisPasses-zero, hypothesisPasses-weight}
+use Rattle.board.specs.Load.Laws.{soFar-atoms, soFar-hypotheses, soFar-rules, boardPasses-soFar, boardPasses-finish}
+use Rattle.board.specs.Load.Rules.{rulePasses-zero}
+use Rattle.board.specs.Load.Steps.{load-finish, load-next}
 use Rattle.board.specs.Table.{placesOf, hypothesisBytes, ruleBytes, fileOf}
-use Rattle.board.specs.Table.Passes.{recordPasses, hypothesisPasses, hypothesesPass, rulePasses, rulesPass, boardPasses}
-use Rattle.board.specs.Table.Bounds.{RuleBounds, hypothesis-bounds, rule-bounds, count-bounds, Passing, passing}
-use Rattle.board.specs.Table.Arrays.{length-placesOf, filled-placesOf}
+use Rattle.board.specs.Table.Bounds.{RuleBounds, rule-bounds}
+use Rattle.board.specs.Table.Passes.{hypothesisPasses, hypothesesPass, rulePasses, rulesPass, soFar, boardPasses}
+use Rattle.board.specs.Table.Places.{length-placesOf, filled-placesOf}
 
 -- ---- the records' lengths
 
@@ -88,38 +93,31 @@ placed : (front : List ℕ) (kind : ℕ) (rest : List ℕ) (b : Board) → mispl
 unfolding misplacedAt
 placed front kind rest b m = rw (getD-append-seam front kind rest 0, m, and-false)
 
--- a record that is read and passes is taken
-load-step : (n : ℕ) (file : List ℕ) (at : ℕ) (b : Board) (r : Record) (next : ℕ)
-    → misplacedAt file at b ≡ false → readRecord file at ≡ accepted (record { found = r; next = next })
-    → T (recordPasses b r) → isFinish r ≡ false → loadFrom (suc n) file at b ≡ loadFrom n file next (taking b r)
-unfolding loadFrom recordPasses
-load-step n file at b r next m e t f =
-    let z : firstFailing (fieldChecks b r) ≡ 0 = eqb→eq (firstFailing (fieldChecks b r)) 0 t in
-    rw (m, e, z, f, loadFrom)
-
 -- the end record ends it
-load-finish : (n : ℕ) (file : List ℕ) (at : ℕ) (b : Board) (next : ℕ)
+load-end : (n : ℕ) (file : List ℕ) (at : ℕ) (b : Board) (next : ℕ)
     → misplacedAt file at b ≡ false → readRecord file at ≡ accepted (record { found = finish; next = next })
-    → T (recordPasses b finish) → length file ≤ next → loadFrom (suc n) file at b ≡ accepted b
-unfolding loadFrom recordPasses isFinish atTheEnd
-load-finish n file at b next m e t l =
-    let z : firstFailing (fieldChecks b finish) ≡ 0 = eqb→eq (firstFailing (fieldChecks b finish)) 0 t in
-    rw (m, e, z, le-ltb next (length file) l, loadFrom)
+    → firstFailing (fieldChecks b finish) ≡ 0 → length file ≤ next → loadFrom (suc n) file at b ≡ accepted b
+unfolding isFinish atTheEnd
+load-end n file at b next m e f l = load-finish n file at b _ m e f refl ∙ rw (le-ltb next (length file) l)
 
 -- ---- the rest of a file
 
 module _ (atoms : ℕ) (some : 1 ≤ atoms) where
+  -- the count has been read
   counted : eqb atoms 0 ≡ false
   counted = ne-eqb atoms 0 (λ e. omega arith)
 
+  -- so a hypothesis is not misplaced before the rules ..
   hypothesis-placed : (hs : List Hypothesis) → misplaced (record { atoms = atoms; hypotheses = hs; rules = [] }) 2 ≡ false
   unfolding misplaced isEmpty
   hypothesis-placed hs = rw counted
 
+  -- .. nor is a rule ..
   rule-placed : (hs : List Hypothesis) (rs : List Rule) → misplaced (record { atoms = atoms; hypotheses = hs; rules = rs }) 3 ≡ false
   unfolding misplaced
   rule-placed hs rs = rw counted
 
+  -- .. nor the end
   end-placed : (hs : List Hypothesis) (rs : List Rule) → misplaced (record { atoms = atoms; hypotheses = hs; rules = rs }) 4 ≡ false
   unfolding misplaced
   end-placed hs rs = rw counted
@@ -128,42 +126,37 @@ module _ (atoms : ℕ) (some : 1 ≤ atoms) where
   rule-step : atoms ≤ 128 → (hs : List Hypothesis) (before : List Rule) (r : Rule) (n : ℕ) (front rest : List ℕ) → T (rulePasses atoms hs before r)
       → loadFrom (suc n) (front ++ (ruleBytes r ++ rest)) (length front) (record { atoms = atoms; hypotheses = hs; rules = before })
       ≡ loadFrom n (front ++ (ruleBytes r ++ rest)) (length front + 10) (record { atoms = atoms; hypotheses = hs; rules = before ++ (r ∷ []) })
-  unfolding rulePasses ruleBytes taking isFinish
+  unfolding ruleBytes taking isFinish
   rule-step few hs before r n front rest t =
       let b : Board = record { atoms = atoms; hypotheses = hs; rules = before } in
-      let p : Bool = recordPasses b (rule (r .head) (placesOf r)) in
-      let q : Bool = leb (length (r .body)) 8 in
       let bounds : RuleBounds atoms r = rule-bounds atoms hs before r t in
       let e : filled (placesOf r) ≡ r .body = filled-placesOf atoms few r (bounds .body) in
-      load-step n (front ++ (ruleBytes r ++ rest)) (length front) b (rule (r .head) (placesOf r)) (length front + 10)
-      (placed front 3 (r .head ∷ (placesOf r ++ rest)) b (rule-placed hs before)) (read-rule front r rest (bounds .size))
-      (and-left p q (and-left (p && q) (all (λ a. ltb a atoms) (r .body)) t)) refl
+      load-next n (front ++ (ruleBytes r ++ rest)) (length front) b _
+      (placed front 3 (r .head ∷ (placesOf r ++ rest)) b (rule-placed hs before)) (read-rule front r rest (bounds .size)) (rulePasses-zero atoms hs before r t) refl
       ∙ rw e
 
   -- one hypothesis
   hypothesis-step : (before : List Hypothesis) (h : Hypothesis) (n : ℕ) (front rest : List ℕ) → T (hypothesisPasses atoms before h)
       → loadFrom (suc n) (front ++ (hypothesisBytes h ++ rest)) (length front) (record { atoms = atoms; hypotheses = before; rules = [] })
       ≡ loadFrom n (front ++ (hypothesisBytes h ++ rest)) (length front + 6) (record { atoms = atoms; hypotheses = before ++ (h ∷ []); rules = [] })
-  unfolding hypothesisPasses hypothesisBytes taking isFinish
+  unfolding hypothesisBytes taking isFinish
   hypothesis-step before h n front rest t =
       let b : Board = record { atoms = atoms; hypotheses = before; rules = [] } in
-      let r : Record = hypothesis (h .declaration) (h .atom) (h .weight) in
-      load-step n (front ++ (hypothesisBytes h ++ rest)) (length front) b r (length front + 6)
+      load-next n (front ++ (hypothesisBytes h ++ rest)) (length front) b _
       (placed front 2 (h .declaration ∷ h .atom ∷ (lowBytes 3 (h .weight) ++ rest)) b (hypothesis-placed before))
-      (read-hypothesis front h rest (hypothesis-bounds atoms before h t .weight))
-      (and-left (recordPasses b r) (ltb (h .weight) (2 ^ 24)) t) refl
+      (read-hypothesis front h rest (hypothesisPasses-weight atoms before h t)) (hypothesisPasses-zero atoms before h t) refl
 
   -- from a place where the remaining rules and the end stand
   load-rules : atoms ≤ 128 → (hs : List Hypothesis) (n : ℕ) (file front : List ℕ) (at : ℕ) (before rs : List Rule)
       → file ≡ front ++ (flatten (map ruleBytes rs) ++ (4 ∷ [])) → at ≡ length front
-      → T (rulesPass atoms hs before rs) → T (recordPasses (record { atoms = atoms; hypotheses = hs; rules = before ++ rs }) finish) → length rs < n
+      → T (rulesPass atoms hs before rs) → firstFailing (fieldChecks (record { atoms = atoms; hypotheses = hs; rules = before ++ rs }) finish) ≡ 0 → length rs < n
       → loadFrom n file at (record { atoms = atoms; hypotheses = hs; rules = before })
       ≡ accepted (record { atoms = atoms; hypotheses = hs; rules = before ++ rs })
   unfolding flatten rulesPass
   load-rules few hs zero file front at before rs fe ae t f l = absurd (omega arith)
   load-rules few hs (suc n) file front at before [] fe ae t f l =
       rw (append-nil before, fe, ae)
-      (load-finish n (front ++ 4 ∷ []) (length front) _ (length front + 1) (placed front 4 [] _ (end-placed hs before)) (read-end front [])
+      (load-end n (front ++ 4 ∷ []) (length front) _ (length front + 1) (placed front 4 [] _ (end-placed hs before)) (read-end front [])
       (rw (append-nil before) at f) (rw length-append (omega arith)))
   load-rules few hs (suc n) file front at before (r ∷ rs) fe ae t f l =
       let p : Bool = rulePasses atoms hs before r in
@@ -182,7 +175,7 @@ module _ (atoms : ℕ) (some : 1 ≤ atoms) where
   load-hypotheses : atoms ≤ 128 → (rs : List Rule) (n : ℕ) (file front : List ℕ) (at : ℕ) (before hs : List Hypothesis)
       → file ≡ front ++ (flatten (map hypothesisBytes hs) ++ (flatten (map ruleBytes rs) ++ (4 ∷ []))) → at ≡ length front
       → T (hypothesesPass atoms before hs) → T (rulesPass atoms (before ++ hs) [] rs)
-      → T (recordPasses (record { atoms = atoms; hypotheses = before ++ hs; rules = rs }) finish) → length hs + length rs < n
+      → firstFailing (fieldChecks (record { atoms = atoms; hypotheses = before ++ hs; rules = rs }) finish) ≡ 0 → length hs + length rs < n
       → loadFrom n file at (record { atoms = atoms; hypotheses = before; rules = [] })
       ≡ accepted (record { atoms = atoms; hypotheses = before ++ hs; rules = rs })
   unfolding flatten hypothesesPass
@@ -207,18 +200,17 @@ module _ (atoms : ℕ) (some : 1 ≤ atoms) where
 pub load-written : (b : Board) → T (boardPasses b) → load (fileOf b) ≡ accepted b
 unfolding load fileOf noBoard misplaced taking isFinish hypothesisBytes ruleBytes
 load-written b t =
-    let p : Passing b = passing b t in
-    let bounds : (1 ≤ b .atoms) × (b .atoms ≤ 128) = count-bounds noBoard (b .atoms) (p .count-passes) in
+    let s : T (soFar b) = boardPasses-soFar b t in
+    let counted = soFar-atoms b s in
     let hs : List ℕ = flatten (map hypothesisBytes (b .hypotheses)) in
     let rs : List ℕ = flatten (map ruleBytes (b .rules)) in
     let rest : List ℕ = hs ++ rs ++ (4 ∷ []) in
     let enough : length (b .hypotheses) + length (b .rules) < length (fileOf b) =
     rw (length-append, length-append)
     (omega (arith, length-le-flatten hypothesisBytes one-of-hypothesis (b .hypotheses), length-le-flatten ruleBytes one-of-rule (b .rules))) in
-    load-step (length (fileOf b)) (fileOf b) 0 noBoard (count (b .atoms)) 2
-    (placed [] 1 (b .atoms ∷ rest) noBoard refl) (read-count [] (b .atoms) rest) (p .count-passes) refl
-    ∙ load-hypotheses (b .atoms) (bounds .0) (bounds .1) (b .rules) (length (fileOf b)) (fileOf b) (1 ∷ b .atoms ∷ []) 2 [] (b .hypotheses)
-    (rw append-assoc) refl (p .hypotheses-pass) (p .rules-pass) (p .end-passes) enough
+    load-next (length (fileOf b)) (fileOf b) 0 noBoard _ (placed [] 1 (b .atoms ∷ rest) noBoard refl) (read-count [] (b .atoms) rest) counted refl
+    ∙ load-hypotheses (b .atoms) (count-positive noBoard (b .atoms) counted) (count-room noBoard (b .atoms) counted) (b .rules) (length (fileOf b)) (fileOf b)
+    (1 ∷ b .atoms ∷ []) 2 [] (b .hypotheses) (rw append-assoc) refl (soFar-hypotheses b s) (soFar-rules b s) (boardPasses-finish b t) enough
   where
     one-of-hypothesis : (h : Hypothesis) → 0 < length (hypothesisBytes h)
     one-of-hypothesis h = omega arith

@@ -2,13 +2,13 @@
 use native.Mathlib.Omega.{arith}
 use native.Mathlib.Numerals.{add-one}
 use mathlib.Core.Path.{_≡_, refl, sym, ap, ap₂, _∙_}
-use mathlib.Core.List.{List, []}
-use Prim.Native.Nat.{ℕ, suc, _+_, _-_, _^_, _<_, _≤_, max}
+use mathlib.Core.List.{[]}
+use Prim.Native.Nat.{ℕ, suc, _+_, _-_, _≤_, max}
 use lib.Dec.{T}
 use lib.ListN.{getD}
 use denote.Ref.{now}
 use Rattle.board.specs.Lists.{below, numbersFrom}
-use Rattle.board.specs.Lists.Laws.{true-of-T}
+use Rattle.board.specs.Lists.Tests.{true-of-T}
 use Rattle.board.specs.Board.{declarationsIn}
 use Rattle.board.specs.Table.Passes.{hypothesesPass}
 use Rattle.board.specs.Lent.{hypothesesIn}

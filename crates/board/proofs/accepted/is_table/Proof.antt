@@ -3,18 +3,18 @@ use native.Mathlib.Omega.{arith}
 use mathlib.Core.Path.{_≡_, sym, ap, _∙_}
 use mathlib.Core.Bool.{Bool, true, false}
 use mathlib.Core.List.{[]}
-use lib.Dec.{T, ltb}
-use Prim.Native.Nat.{ℕ, _≤_}
+use lib.Dec.{ltb}
+use Prim.Native.Nat.{_≤_}
 use borrow.Author.Tests.{not-true, not-false, ltb-true, ltb-false, le-leb, lt-leb}
 use Rattle.board.specs.Lists.{all, below}
-use Rattle.board.specs.Lists.Laws.{T-of-true}
+use Rattle.board.specs.Lists.Tests.{T-of-true}
 use Rattle.board.specs.Sizes.{mostW}
 use Rattle.board.specs.Board.{Board, W}
 use Rattle.board.specs.Table.{boardOf}
-use Rattle.board.specs.Table.Passes.{hypothesesPass}
-use Rattle.board.specs.Table.Standing.{declared-passing}
+use Rattle.board.specs.Table.Declared.{declared-passing}
 use Rattle.board.specs.Table.Fields.{Sized, ruleStands, sizesStand, roomStands, fieldsStand}
 use Rattle.board.specs.Table.Fields.Parts.{sizes-parts}
+use Rattle.board.specs.Table.Passes.{hypothesesPass}
 use Rattle.board.specs.Lent.{hypothesesIn, rulesIn, boardOf-lent}
 use Rattle.board.specs.Table.Fields.Laws.{isTable-fields}
 use borrow.Author.Needs.{needs}

@@ -1,5 +1,4 @@
 -- `room_stands` meets its contract: its tests are those of the definition. Assumes nothing.
-use native.Mathlib.Omega.{arith}
 use mathlib.Core.Path.{_≡_, sym, _∙_}
 use mathlib.Core.Bool.{true}
 use denote.Ref.{now}

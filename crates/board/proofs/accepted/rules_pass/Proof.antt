@@ -1,16 +1,15 @@
 -- `rules_pass` meets its contract: the rules passed so far stand. Assumes nothing.
 use native.Mathlib.Omega.{arith}
-use native.Mathlib.Numerals.{add-one}
-use borrow.Author.Count.{below-none, below-more}
-use mathlib.Core.Path.{_≡_, refl, sym, ap, _∙_}
+use borrow.Author.Count.{below-more}
+use mathlib.Core.Path.{_≡_, sym, _∙_}
 use mathlib.Core.List.{List}
-use Prim.Native.Nat.{ℕ, suc, _+_, _-_, _*_, _<_, _≤_}
+use Prim.Native.Nat.{ℕ, _-_, _*_, _<_, _≤_}
 use lib.Dec.{T}
-use lib.ListN.{length, getD, take, drop}
+use lib.ListN.{getD, take, drop}
 use denote.Ref.{now}
-use Rattle.board.specs.Lists.Laws.{true-of-T, false-of-T, all-at}
-use Rattle.board.specs.Lists.Passing.{all-below}
-use Rattle.board.specs.Lists.Places.{below-of}
+use Rattle.board.specs.Lists.Laws.{all-at}
+use Rattle.board.specs.Lists.Places.{below-of, all-below}
+use Rattle.board.specs.Lists.Tests.{true-of-T, false-of-T}
 use Rattle.board.specs.File.{rule}
 use Rattle.board.specs.Load.{firstFailing, fieldChecks}
 use Rattle.board.specs.Load.Laws.{recordPasses-zero, zero-recordPasses}

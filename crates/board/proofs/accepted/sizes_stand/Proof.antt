@@ -1,6 +1,5 @@
 -- `sizes_stand` meets its contract: its tests are those of the definition. Assumes nothing.
 use borrow.Author.Tests.{le-leb, lt-leb}
-use native.Mathlib.Omega.{arith}
 use Rattle.board.specs.Accepted.{within}
 use Rattle.board.proofs.accepted.sizes_stand.Statement.{statement}
 use Rattle.board.proofs.accepted.sizes_stand.Tie as tie

@@ -1,5 +1,4 @@
 -- `count_refusal` meets its contract: its tests are those of check 4. Assumes nothing.
-use native.Mathlib.Omega.{arith}
 use borrow.Author.Tests.{le-ltb, lt-ltb, eq-eqb, ne-eqb}
 use Rattle.board.specs.Load.{firstFailing, fieldChecks}
 use Rattle.board.proofs.checks.count_refusal.Statement.{statement}

@@ -1,6 +1,6 @@
 -- `end_refusal` meets its contract: it is check 8. Assumes nothing.
 use borrow.Author.Needs.{needs}
-use mathlib.Core.Path.{_≡_, sym, _∙_}
+use mathlib.Core.Path.{sym, _∙_}
 use Rattle.board.specs.Load.{firstFailing, fieldChecks}
 use Rattle.board.proofs.checks.end_refusal.Statement.{statement}
 use Rattle.board.proofs.checks.end_refusal.Tie as tie

@@ -1,8 +1,6 @@
 -- `field_refusal` meets its contract: each kind of record has its own function. Assumes nothing.
-use native.Mathlib.Omega.{arith}
-use mathlib.Core.Path.{_≡_, refl, sym, ap, _∙_, subst}
-use mathlib.Core.List.{List, []}
-use Prim.Native.Nat.{ℕ, _≤_, _<_}
+use mathlib.Core.Path.{_∙_}
+use mathlib.Core.List.{[]}
 use denote.Ref.{now}
 use Rattle.board.specs.Lent.Laws.{declarationsIn-lent}
 use Rattle.board.specs.EntryPoints.{recordMeans}

@@ -1,7 +1,6 @@
 -- `follows` meets its contract: its two tests are those of check 5. Assumes nothing.
 use native.Mathlib.Omega.{arith}
 use native.Mathlib.Numerals.{add-one}
-use mathlib.Core.Path.{_≡_}
 use borrow.Author.Tests.{eq-eqb, ne-eqb}
 use Rattle.board.proofs.checks.follows.Statement.{statement}
 use Rattle.board.proofs.checks.follows.Tie as tie

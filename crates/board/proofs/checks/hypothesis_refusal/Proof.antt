@@ -1,15 +1,15 @@
 -- `hypothesis_refusal` meets its contract: its tests, in their order, are the checks 4 to 7. Assumes nothing.
 use borrow.Author.Needs.{needs}
 use native.Mathlib.Omega.{arith}
-use mathlib.Core.Path.{_≡_, refl, sym, ap, _∙_}
+use mathlib.Core.Path.{_≡_, sym, _∙_}
 use mathlib.Core.Bool.{Bool, true, false, not, _||_}
 use mathlib.Core.List.{List, []}
-use Prim.Native.Nat.{ℕ, suc, _≤_, _<_}
+use Prim.Native.Nat.{ℕ, suc}
 use lib.Dec.{eqb, leb}
 use lib.ListN.{length}
 use denote.Ref.{now}
 use borrow.Author.Tests.{le-leb, lt-leb, eq-eqb, ne-eqb, not-true, not-false}
-use Rattle.board.specs.Board.{Rule, declarationsIn, declaration, isAtomOf, isHypothesis}
+use Rattle.board.specs.Board.{declarationsIn, declaration, isAtomOf, isHypothesis}
 use Rattle.board.specs.Lent.{hypothesesIn}
 use Rattle.board.specs.Lent.Laws.{declarationsIn-lent}
 use Rattle.board.specs.Load.{firstFailing, fieldChecks}

@@ -2,17 +2,15 @@
 use native.Mathlib.Omega.{arith}
 use mathlib.Core.Path.{_≡_, sym, ap, _∙_}
 use mathlib.Core.Bool.{Bool, true, false}
-use mathlib.Core.List.{List}
-use Prim.Native.Nat.{ℕ, _≤_, _<_}
-use lib.Dec.{T}
+use Prim.Native.Nat.{_≤_}
 use lib.ListN.{length}
 use denote.Ref.{now}
 use borrow.Author.Tests.{not-true, not-false, le-leb, lt-leb}
-use Rattle.board.specs.Lists.Laws.{T-of-true}
+use Rattle.board.specs.Lists.Tests.{T-of-true}
 use Rattle.board.specs.Answers.{granted}
 use Rattle.board.specs.Board.{Board, declarations, isStateOf}
 use Rattle.board.specs.Holds.{holds, inState}
-use Rattle.board.specs.Holds.Remembered.{rulesAlone, hypothesesAlone, lentHolds}
+use Rattle.board.specs.Holds.Remembered.{rulesAlone}
 use Rattle.board.specs.Holds.Remembered.Laws.{holds-rules, declarations-hypotheses}
 use Rattle.board.specs.Holds.Remembered.Tables.{table-sound}
 use Rattle.board.specs.Table.{boardOf, isTable}

@@ -1,15 +1,14 @@
 -- `misplaced_here` meets its contract: each answer is a case of `misplaced`. Assumes nothing.
 use native.Mathlib.Omega.{arith}
-use mathlib.Core.Path.{_≡_, refl, sym, _∙_, ap}
+use mathlib.Core.Path.{_≡_, sym, _∙_}
 use mathlib.Core.Bool.{not}
 use mathlib.Core.List.{List, [], _∷_}
-use Prim.Native.Nat.{ℕ, _+_, _<_, _≤_}
+use Prim.Native.Nat.{ℕ}
 use lib.ListN.{length}
 use lib.Dec.{ltb}
-use borrow.Author.Tests.{le-leb, lt-leb, le-ltb, lt-ltb, eq-eqb, ne-eqb}
+use borrow.Author.Tests.{le-ltb, lt-ltb, eq-eqb, ne-eqb}
 use Rattle.board.specs.Lists.{isEmpty}
 use Rattle.board.specs.Board.{Rule}
-use Rattle.board.specs.File.{knownKind}
 use Rattle.board.specs.File.Laws.{known, unknown-low, unknown-high}
 use Rattle.board.specs.Load.{misplaced}
 use Rattle.board.proofs.load.misplaced_here.Statement.{statement}

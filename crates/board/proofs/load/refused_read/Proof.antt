@@ -4,7 +4,6 @@ use Prim.Native.Nat.{ℕ}
 use native.Mathlib.Omega.{arith}
 use mathlib.Core.Path.{_≡_, sym, ap, _∙_}
 use Rattle.board.specs.Answers.{refusedAt}
-use Rattle.board.specs.File.{Found}
 use Rattle.board.specs.EntryPoints.{readMeans}
 use Rattle.board.proofs.load.refused_read.Statement.{statement}
 use Rattle.board.proofs.load.refused_read.Tie as tie

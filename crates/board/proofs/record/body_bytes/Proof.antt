@@ -1,6 +1,5 @@
 -- `body_bytes` meets its contract: each arm is a case of `bodyBytes`. Assumes nothing.
-use mathlib.Core.Path.{refl}
-use borrow.Author.Tests.{eq-eqb, ne-eqb}
+use borrow.Author.Tests.{ne-eqb}
 use Rattle.board.specs.File.{bodyBytes}
 use Rattle.board.proofs.record.body_bytes.Statement.{statement}
 use Rattle.board.proofs.record.body_bytes.Tie as tie

@@ -1,9 +1,5 @@
 -- `read_body` meets its contract: each arm is a case of `recordOf`, and the body's bytes are there. Assumes nothing.
 use native.Mathlib.Omega.{arith}
-use mathlib.Core.Path.{_≡_, refl, sym, subst, ap}
-use Prim.Native.Nat.{ℕ, _+_, _<_, _≤_}
-use lib.ListN.{length}
-use denote.Ref.{now}
 use borrow.Author.Tests.{ne-eqb}
 use Rattle.board.specs.File.{recordOf}
 use Rattle.board.specs.File.Laws.{bodyBytes-count, bodyBytes-hypothesis, bodyBytes-rule}

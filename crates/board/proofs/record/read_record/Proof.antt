@@ -1,10 +1,9 @@
 -- `read_record` meets its contract: the tests that lead to each answer are those of `readRecord`. Assumes nothing.
 use native.Mathlib.Omega.{arith}
-use mathlib.Core.Path.{_≡_, refl, sym, subst, ap, _∙_}
-use Prim.Native.Nat.{ℕ, _+_, _<_, _≤_}
-use lib.ListN.{length, getD}
+use mathlib.Core.Path.{sym}
+use lib.ListN.{getD}
 use denote.Ref.{now}
-use Rattle.board.specs.File.{nextPlace, readRecord}
+use Rattle.board.specs.File.{nextPlace}
 use Rattle.board.specs.File.Laws.{bodyBytes-le, read-past, read-unknown, read-short, read-whole, known, unknown-low, unknown-high}
 use Rattle.board.specs.EntryPoints.{readMeans}
 use borrow.Author.Needs.{needs}

@@ -1,6 +1,5 @@
 -- `three_bytes` meets its contract: three bytes fit 24 digits. Assumes nothing.
 use native.Mathlib.Omega.{arith}
-use mathlib.Core.Path.{_≡_}
 use Prim.Native.Nat.{_+_, _<_}
 use Rattle.board.specs.File.{threeBytes}
 use borrow.Author.Needs.{needs}

@@ -4,17 +4,19 @@ use native.Mathlib.Omega.{arith}
 use native.Mathlib.Decide.{decLt, ℕ-discrete}
 use mathlib.Core.Path.{_≡_, refl, sym, ap, _∙_}
 use mathlib.Core.Bool.{Bool, true, false, _||_, or-true}
-use mathlib.Core.List.{List, List·Memᴰ, Memᴰ·map}
+use mathlib.Core.List.{List, List·Memᴰ}
 use lib.Dec.{T-not, not-T, eqb, eqb→eq, eqb-refl}
 use lib.ListN.{length, getD, take, drop, set, replicate, length-take, length-drop, length-replicate, getD-replicate, List·getD-eq-default}
 use lib.Seq.{getD-take, getD-drop, getD-set-same, getD-set-other, set-out}
 use Rattle.board.specs.Lists.{any, below}
-use Rattle.board.specs.Lists.Laws.{T-of-true, true-of-T, false-of-T, and-both, and-left, and-right, all-at, all-of, any-map, keep-of, keep-at}
-use Rattle.board.specs.Lists.Places.{at-place, place-of, below-of, any-below, none-below}
+use Rattle.board.specs.Lists.Laws.{all-at, all-of, any-map, keep-of, keep-at}
+use Rattle.board.specs.Lists.Places.{at-place, place-of, any-below, none-below}
+use Rattle.board.specs.Lists.Tests.{T-of-true, true-of-T, false-of-T, and-both, and-left, and-right}
 use Rattle.board.specs.Sizes.{mostBody, emptyPlace}
 use Rattle.board.specs.Board.{Board, declarations}
 use Rattle.board.specs.Load.{filled}
 use Rattle.board.specs.Lent.{rulesIn}
+use Rattle.board.specs.Lent.Laws.{rulesIn-of}
 use Rattle.board.specs.Holds.{ruleHolds, holds, inState}
 use Rattle.board.specs.Holds.Laws.{ruleGives, holds-step}
 use Rattle.board.specs.Holds.Remembered.{rulesAlone, hypothesesAlone, ruleIn, lentHolds, SoundRules, RightMark, Remembered}
@@ -40,9 +42,11 @@ remembered-none f n = record { right = λ x. rw (zeros x (decLt x n)) (record { 
 
 -- what is found of an atom is answered, and marked
 module _ (f : ℕ → Bool) (known : List ℕ) (a : ℕ) (h : Remembered f known) where
+  -- it holds: the mark is 1
   pub told-yes : true ≡ f a → (true ≡ f a) × Remembered f (set known a 1)
   told-yes e = (e, remembered-set f known h a 1 (record { most = omega arith; one = λ _. sym e; two = λ k. absurd (omega arith) }))
 
+  -- it does not hold: the mark is 2
   pub told-no : false ≡ f a → (false ≡ f a) × Remembered f (set known a 2)
   told-no e = (e, remembered-set f known h a 2 (record { most = omega arith; one = λ k. absurd (omega arith); two = λ _. sym e }))
 
@@ -88,6 +92,7 @@ abbrev pub lentGives : List ℕ → List ℕ → ℕ → List ℕ → ℕ → �
 lentGives head body n state a i = ruleGives (lentHolds head body n state) a (ruleIn head body i)
 
 module _ (head body : List ℕ) (n : ℕ) (state : List ℕ) (sound : SoundRules head body n) (a : ℕ) where
+  -- an atom holds if it is chosen or if one of the first n rules gives it
   by-place : lentHolds head body n state a ≡ (inState state a || any (lentGives head body n state a) (below n))
   unfolding rulesIn
   by-place = holds-step (inState state) (rulesAlone (rulesIn head body n)) a (sound .low) ∙ ap (_||_ (inState state a)) (any-map _ _ (below n))
@@ -112,13 +117,14 @@ module _ (head body : List ℕ) (n : ℕ) (state : List ℕ) (sound : SoundRules
 
 -- a filled place of a rule has an atom below the rule's head
 module _ (head body : List ℕ) (n : ℕ) (sound : SoundRules head body n) (i : ℕ) (l : i < n) where
+  -- the rule's places are in the array
   pub lent-room : mostBody * i + mostBody ≤ length body
   lent-room = omega (arith, sound .room)
 
+  -- an atom at a filled place is below the head
   pub lent-low : (k : ℕ) → k < mostBody → (getD body (mostBody * i + k) 0 ≡ emptyPlace → ⊥) → getD body (mostBody * i + k) 0 < getD head i 0
-  unfolding rulesIn
   lent-low k j f =
-      sound .low (ruleIn head body i) (Memᴰ·map (λ x. ruleIn head body x) (below-of l)) _ (filled-here head body i lent-room k j f)
+      sound .low (ruleIn head body i) (rulesIn-of head body n i l) _ (filled-here head body i lent-room k j f)
 
 -- ---- from the rules or the hypotheses alone to a whole board
 

@@ -7,38 +7,34 @@ use mathlib.Core.List.{List, [], _∷_, _++_, map, flatten}
 use lib.Dec.{T, leb, le→leb}
 use lib.ListN.{length, getD, length-append, length-map, List·getD-map}
 use Rattle.board.specs.Lists.{pad}
-use Rattle.board.specs.Lists.Passing.{and-both, and-left, and-right}
-use Rattle.board.specs.Lists.Arrays.{take-drop-flatten}
+use Rattle.board.specs.Lists.Flatten.{take-drop-flatten}
 use Rattle.board.specs.Lists.Padding.{getD-pad, drop-pad-same}
+use Rattle.board.specs.Lists.Tests.{and-both, and-left, and-right}
 use Rattle.board.specs.Sizes.{mostAtoms, mostRules, mostBody, mostW}
 use Rattle.board.specs.Board.{Board, Hypothesis, Rule, isHypothesis, W}
 use Rattle.board.specs.Accepted.{within}
-use Rattle.board.specs.Accepted.Laws.{within-of}
-use Rattle.board.specs.File.{rule, finish}
+use Rattle.board.specs.Accepted.Within.{within-of}
+use Rattle.board.specs.File.{rule}
 use Rattle.board.specs.Load.{fieldChecks}
 use Rattle.board.specs.Load.Checks.{finish-weight}
-use Rattle.board.specs.Load.Laws.{recordPasses-zero, zero-recordPasses, soFar-hypotheses, soFar-rules}
+use Rattle.board.specs.Load.Laws.{zero-recordPasses, soFar-hypotheses, soFar-rules, boardPasses-soFar, boardPasses-finish}
 use Rattle.board.specs.Load.Room.{soFar-room}
 use Rattle.board.specs.Load.Rules.{afterRules, rulePasses-zero}
 use Rattle.board.specs.Table.{boardOf, placesOf, tableOf}
-use Rattle.board.specs.Table.Passes.{recordPasses, hypothesesPass, rulePasses, rulesPass, soFar, boardPasses}
-use Rattle.board.specs.Table.Arrays.{length-placesOf, boardOf-tableOf}
+use Rattle.board.specs.Table.Arrays.{noRule, boardOf-tableOf, hypothesesIn-tableOf}
 use Rattle.board.specs.Table.Bounds.{rules-bounds}
-use Rattle.board.specs.Table.Taking.{length-places}
-use Rattle.board.specs.Table.Standing.{hypothesesIn-tableOf}
 use Rattle.board.specs.Table.Fields.{ruleStands, zeroFrom, sizesStand, roomStands}
+use Rattle.board.specs.Table.Passes.{recordPasses, hypothesesPass, rulePasses, rulesPass, soFar, boardPasses}
+use Rattle.board.specs.Table.Taking.{length-places}
 use Rattle.board.specs.Lent.Laws.{placesIn, length-rulesIn}
 use Rattle.board.specs.Table.Fields.Parts.{hypothesesOf, ruleOf, Stands, parts-room}
+use Rattle.board.specs.Table.Places.{length-placesOf}
 
 -- a rule's record asks of the rules before it only how many they are
 rule-by-number : (atoms : ℕ) (hs : List Hypothesis) (rs qs : List Rule) (h : ℕ) (places : List ℕ) → length rs ≡ length qs
     → recordPasses (afterRules atoms hs rs) (rule h places) ≡ recordPasses (afterRules atoms hs qs) (rule h places)
 unfolding recordPasses fieldChecks isHypothesis
 rule-by-number atoms hs rs qs h places e = rw e
-
--- past the end of a list of rules
-noRule : Rule
-noRule = record { head = 0; body = [] }
 
 -- the record of each rule passes after as many rules as stand before it
 rules-records : (atoms : ℕ) (hs : List Hypothesis) (before rs : List Rule) → T (rulesPass atoms hs before rs)
@@ -56,8 +52,7 @@ rules-records atoms hs before (r ∷ rs) p (suc j) l qs e =
 module _ (b : Board) (p : T (boardPasses b)) where
   -- it is read, to the last rule
   read : T (soFar b)
-  unfolding boardPasses
-  read = and-left (soFar b) (recordPasses b finish) p
+  read = boardPasses-soFar b p
 
   -- its sizes
   tableOf-sizes : T (sizesStand (tableOf b))
@@ -75,7 +70,7 @@ module _ (b : Board) (p : T (boardPasses b)) where
 
   -- each of its rules
   tableOf-rules : (j : ℕ) → j < length (b .rules) → T (ruleOf (tableOf b) j)
-  unfolding ruleStands tableOf pad noRule
+  unfolding ruleStands tableOf pad
   tableOf-rules j l =
       let rs : List Rule = b .rules in
       let h : getD (tableOf b .head) j 0 ≡ getD rs j noRule .head =
@@ -88,8 +83,7 @@ module _ (b : Board) (p : T (boardPasses b)) where
 
   -- its W
   tableOf-weight : W (boardOf (tableOf b)) ≤ mostW
-  unfolding boardPasses
-  tableOf-weight = rw (boardOf-tableOf b p) (finish-weight b (recordPasses-zero b finish (and-right (soFar b) (recordPasses b finish) p)))
+  tableOf-weight = rw (boardOf-tableOf b p) (finish-weight b (boardPasses-finish b p))
 
   -- its unused room
   tableOf-room : T (roomStands (tableOf b))

@@ -2,19 +2,18 @@
 -- nothing else. Assumes nothing.
 use mathlib.Core.Path.{_≡_, sym}
 use lib.Dec.{T}
-use Rattle.board.specs.Lists.Laws.{T-ext}
-use Rattle.board.specs.Lists.Passing.{and-left, and-right}
+use Rattle.board.specs.Lists.Tests.{T-ext, and-left, and-right}
 use Rattle.board.specs.Accepted.{isBoard}
 use Rattle.board.specs.Accepted.Laws.{passes-accepted}
 use Rattle.board.specs.Load.Loaded.{loaded-passes}
 use Rattle.board.specs.Table.{boardOf, tableOf, sameTable, isTable}
-use Rattle.board.specs.Table.Passes.{boardPasses}
 use Rattle.board.specs.Table.Arrays.{sameTable→eq}
-use Rattle.board.specs.Table.Laws.{passes-isTable, isTable-by-fields}
 use Rattle.board.specs.Table.Fields.{Sized, fieldsStand}
+use Rattle.board.specs.Table.Fields.Boards.{tableOf-stands}
 use Rattle.board.specs.Table.Fields.Parts.{Stands, fieldsStand→, →fieldsStand}
 use Rattle.board.specs.Table.Fields.Stored.{stands-passes, stands-stored}
-use Rattle.board.specs.Table.Fields.Boards.{tableOf-stands}
+use Rattle.board.specs.Table.Laws.{passes-isTable, isTable-by-fields}
+use Rattle.board.specs.Table.Passes.{boardPasses}
 use Rattle.board.specs.declared.Table.{Table}
 
 -- the board of a table that passes, passes

@@ -9,22 +9,24 @@ use lib.ListN.{length, getD, take, length-take, length-drop}
 use lib.Seq.{take-add}
 use borrow.Author.Tests.{ne-eqb, le-ltb}
 use Rattle.board.specs.Lists.{pad, below}
-use Rattle.board.specs.Lists.Passing.{and-both}
-use Rattle.board.specs.Lists.Arrays.{map-getD-take}
+use Rattle.board.specs.Lists.Flatten.{flatten-map-snoc}
 use Rattle.board.specs.Lists.Padding.{pad-take}
+use Rattle.board.specs.Lists.Places.{map-getD-take}
 use Rattle.board.specs.Sizes.{mostAtoms, mostRules, mostBody, mostW}
 use Rattle.board.specs.Board.{Board, Hypothesis, Rule, W}
 use Rattle.board.specs.File.{count, rule, finish}
 use Rattle.board.specs.Load.{noBoard, filled, fieldChecks, firstFailing, taking}
 use Rattle.board.specs.Load.Checks.{rule-filledFirst}
-use Rattle.board.specs.Load.Laws.{recordPasses-zero, zero-recordPasses, soFar-of, soFar-rule}
+use Rattle.board.specs.Load.Laws.{recordPasses-zero, soFar-of, soFar-rule, boardPasses-of}
 use Rattle.board.specs.Load.Rules.{afterRules}
 use Rattle.board.specs.Table.{boardOf, placesOf, tableOf}
-use Rattle.board.specs.Table.Passes.{recordPasses, hypothesesPass, rulesPass, soFar, boardPasses}
-use Rattle.board.specs.Table.Taking.{table-path, flatten-snoc, places-back}
 use Rattle.board.specs.Table.Fields.{Sized, ruleStands, zeroFrom}
+use Rattle.board.specs.Table.Passes.{hypothesesPass, rulesPass, soFar, boardPasses}
+use Rattle.board.specs.Table.Places.{placesOf-filled}
+use Rattle.board.specs.Table.Taking.{table-path}
+use Rattle.board.specs.Holds.Remembered.{ruleIn}
 use Rattle.board.specs.Lent.{hypothesesIn, rulesIn, boardOf-lent}
-use Rattle.board.specs.Lent.Laws.{hypothesisIn, placesIn, ruleIn, length-hypothesesIn, rulesIn-suc, rulesIn-zero, length-rulesIn}
+use Rattle.board.specs.Lent.Laws.{hypothesisIn, placesIn, length-hypothesesIn, rulesIn-suc, rulesIn-zero, length-rulesIn}
 use Rattle.board.specs.Table.Fields.Parts.{hypothesesOf, Stands, sizes-parts, room-parts}
 use Rattle.board.specs.declared.Table.{Table}
 
@@ -66,9 +68,9 @@ module _ (atoms : ℕ) (hs : List Hypothesis) (head body : List ℕ) where
   rules-places zero l s = rw rulesIn-zero
   rules-places (suc n) l s =
       let same : placesOf (record { head = getD head n 0; body = filled (placesIn body n) }) ≡ placesIn body n =
-      places-back (placesIn body n) (eight-places n l) (rule-filledFirst _ _ (placesIn body n) (stands-zero n (s n (omega arith)))) in
+      placesOf-filled (getD head n 0) (placesIn body n) (eight-places n l) (rule-filledFirst _ _ (placesIn body n) (stands-zero n (s n (omega arith)))) in
       let next : mostBody * suc n ≡ mostBody * n + mostBody = omega arith in
-      rw (rulesIn-suc, flatten-snoc, same, rules-places n (omega arith) (λ j k. s j (omega arith)), next)
+      rw (rulesIn-suc, flatten-map-snoc, same, rules-places n (omega arith) (λ j k. s j (omega arith)), next)
       (sym (take-add (mostBody * n) mostBody body))
 
 -- an array with zeros after its first k elements holds these and nothing else
@@ -91,12 +93,11 @@ module _ (t : Table) (sized : Sized t) (s : Stands t) where
 
   -- it passes
   pub stands-passes : T (boardPasses (boardOf t))
-  unfolding boardPasses
   stands-passes =
       let k = sizes-parts t (s .sizes) in
-      and-both (soFar (boardOf t)) (recordPasses (boardOf t) finish)
+      boardPasses-of (boardOf t)
       (rw boardOf-lent (rules-soFar (t .atoms) (hypothesesOf t) (t .head) (t .body) (k .0) (k .1) (s .hypotheses) (t .rules) places-room (s .rules)))
-      (zero-recordPasses (boardOf t) finish (finish-zero (boardOf t) (s .weight)))
+      (finish-zero (boardOf t) (s .weight))
 
   -- the table holds it and nothing else
   pub stands-stored : t ≡ tableOf (boardOf t)

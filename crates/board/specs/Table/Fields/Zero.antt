@@ -1,12 +1,11 @@
 -- Laws of an array that is zero from a place on. Assumes nothing.
-use mathlib.Core.Path.{_≡_, refl, sym, ap, _∙_}
+use mathlib.Core.Path.{_≡_, sym}
 use Prim.Native.Nat.{ℕ, suc, _≤_, _<_}
 use mathlib.Core.Bool.{true, false}
 use mathlib.Core.List.{List}
-use lib.Dec.{eqb}
-use lib.ListN.{length, getD, drop, drop-of-length-le}
+use lib.ListN.{length, getD, drop-of-length-le}
 use lib.Seq.{drop-cons}
-use borrow.Author.Tests.{eq-eqb, ne-eqb}
+use borrow.Author.Tests.{ne-eqb}
 use Rattle.board.specs.Lists.{all}
 use Rattle.board.specs.Table.Fields.{zeroFrom}
 
