@@ -1,5 +1,5 @@
 -- What `board` means, in the order of document 01: read Sizes, Sets, Answers, Board, Holds, Accepted,
--- File, Load, Table, EntryPoints.
+-- File, Load, Table, EntryPoints, Facts.
 -- `Lists` has the few functions on lists that these lean on.
 pub mod Lists
 pub mod Sizes
@@ -13,3 +13,4 @@ pub mod Load
 pub mod Table
 pub mod Lent
 pub mod EntryPoints
+pub mod Facts

@@ -10,7 +10,7 @@ pub mod Tests
 use Prim.Native.Nat.{ℕ, zero, suc, _+_, _*_, _-_}
 use mathlib.Core.Bool.{Bool, true, false, _&&_, _||_, cond}
 use mathlib.Core.List.{List, [], _∷_, _++_}
-use lib.ListN.{length, replicate}
+use lib.ListN.{length, drop, replicate}
 use lib.Dec.{ltb, eqb}
 
 module _ {ℓ} {A : Type ℓ} where
@@ -75,3 +75,7 @@ sameNumbers [] [] = true
 sameNumbers [] (y ∷ ys) = false
 sameNumbers (x ∷ xs) [] = false
 sameNumbers (x ∷ xs) (y ∷ ys) = eqb x y && sameNumbers xs ys
+
+-- nothing but zeros from place n on
+unfoldable pub zeroFrom : ℕ → List ℕ → Bool
+zeroFrom n xs = all (eqb 0) (drop n xs)

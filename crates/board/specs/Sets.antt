@@ -1,6 +1,11 @@
 -- Sets of atoms. Document 01 reads a pending set "as a number (the sum of 2^atom)"; here every set of atoms is that number, so an atom is a
 -- member exactly if its binary digit is set. Two sets are equal exactly if they are the same number. Assumes nothing.
-use Prim.Native.Nat.{ℕ, zero, suc, _-_, _/_, _%_, _^_}
+pub mod Bounds
+pub mod Digits
+pub mod Highest
+pub mod Laws
+pub mod Members
+use Prim.Native.Nat.{ℕ, zero, suc, _-_, _/_, _%_, _^_, _+_, _*_}
 use mathlib.Core.Bool.{Bool, true, false, cond}
 use mathlib.Core.List.{List, [], _∷_}
 use lib.ListN.{length}
@@ -54,3 +59,7 @@ highestBelow (suc n) s = elim (member n s) [ true ↦ n | false ↦ highestBelow
 -- the highest atom of s
 unfoldable pub highest : ℕ → ℕ
 highest s = highestBelow mostAtoms s
+
+-- a set out of its two words, as the code holds it: atoms 0 to 63 in the low one, 64 to 127 in the high one
+abbrev pub words : ℕ → ℕ → ℕ
+words lowWord highWord = highWord * 2 ^ 64 + lowWord

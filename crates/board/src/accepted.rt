@@ -12,22 +12,23 @@ ghost use mathlib.Core.List.{List, []};
 ghost use mathlib.Core.Bool.{_&&_};
 ghost use Prim.Native.Nat.{ℕ, _*_, _≤_};
 ghost use lib.Dec.{leb};
-ghost use Rattle.board.specs.Lists.{all, below};
+ghost use Rattle.board.specs.Lists.{all, below, zeroFrom};
 ghost use Rattle.board.specs.Sizes.{mostAtoms, mostRules, mostBody};
 ghost use Rattle.board.specs.Accepted.{within};
 ghost use Rattle.board.specs.Board.{declarationsIn};
 ghost use Rattle.board.specs.Table.{isTable};
 ghost use Rattle.board.specs.Table.Passes.{hypothesesPass};
-ghost use Rattle.board.specs.Table.Fields.{ruleStands, zeroFrom};
+ghost use Rattle.board.specs.Table.Fields.{ruleStands};
 ghost use Rattle.board.specs.Lent.{hypothesesIn};
 
 // One more than the greatest weight that three bytes hold.
 const WEIGHTS: u32 = 16_777_216;
 
-// How many declarations the first `n` hypotheses have.
+// How many declarations the first `n` hypotheses have: at most 256, since a byte numbers them.
 pub(crate) fn declarations_of(numbers: &[u8; 128], n: usize) -> usize
     requires { ⌜ n ≤ mostAtoms ⌝ }
     ensures { λ r. ⌜ ((xs ws : List ℕ) → r ≡ declarationsIn (hypothesesIn (now (numbers .entry)) xs ws n)) ⌝ }
+    ensures { λ r. ⌜ r ≤ 256 ⌝ }
 {
     let mut declarations = 0;
     let mut i = 0;

@@ -7,6 +7,7 @@ ghost use Rattle.board.specs.Table.{zeroTable};
 
 pub mod accepted;
 mod checks;
+pub mod facts;
 pub mod holding;
 pub mod load;
 mod places;

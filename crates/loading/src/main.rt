@@ -6,6 +6,7 @@
 use board::Loaded;
 use board::Loading;
 use board::Told;
+use board::facts::whole_weight;
 use container::byte_at;
 use container::file_at;
 use container::past;
@@ -13,7 +14,6 @@ use container::state_at;
 use line::put;
 use line::put_number;
 use line::write;
-use total::product;
 ghost use mathlib.Core.Path.{_≡_};
 ghost use Prim.Native.Nat.{_<_, _≤_};
 ghost use lib.ListN.{length};
@@ -21,7 +21,6 @@ ghost use Rattle.io.specs.Counts.{Counts};
 
 mod container;
 mod line;
-mod total;
 
 // The line of a load; answers how many bytes it has.
 fn loading_line(loading: Loading, line: &mut [u8; 64]) -> usize
@@ -32,7 +31,8 @@ fn loading_line(loading: Loading, line: &mut [u8; 64]) -> usize
         Loaded::Accepted => {
             let table = loading.table;
             let at = put(line, 0, b"accepted ");
-            let at = put_number(line, at, product(table));
+            let whole = whole_weight(&table.declaration, &table.weight, table.hypotheses);
+            let at = put_number(line, at, whole);
             put(line, at, b"\n")
         }
         Loaded::Refused(number, place) => {

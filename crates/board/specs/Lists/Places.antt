@@ -10,7 +10,7 @@ use lib.Dec.{T}
 use lib.ListN.{length, getD, take}
 use lib.Seq.{length-take-le, getD-take}
 use Rattle.board.specs.Lists.{any, all, numbersFrom, below}
-use Rattle.board.specs.Lists.Laws.{all-at, all-of, any-of, any-none}
+use Rattle.board.specs.Lists.Laws.{all-at, all-of, any-of, any-find, any-none}
 use Rattle.board.specs.Lists.Tests.{T-of-true, true-of-T, false-of-T}
 
 module _ {ℓ} {A : Type ℓ} where
@@ -75,6 +75,15 @@ module _ (p : ℕ → Bool) (n : ℕ) where
   -- a number below n passes
   pub any-below : (i : ℕ) → i < n → T (p i) → any p (below n) ≡ true
   any-below i l t = any-here p (below n) 0 i (rw length-below l) (rw (getD-below n i l) t)
+
+  -- one of them passes: which
+  pub find-below : T (any p (below n)) → (i : ℕ) × (i < n) × T (p i)
+  find-below t =
+      let (x, m, s) = any-find p (below n) t in
+      let (i, l, e) = place-of 0 m in
+      let k : i < n = rw length-below at l in
+      let same : i ≡ x = sym (getD-below n i k) ∙ e in
+      (i, k, rw same s)
 
   -- no number below n passes
   pub none-below : ((i : ℕ) → i < n → T (p i) → ⊥) → any p (below n) ≡ false

@@ -8,9 +8,9 @@ use Prim.Native.Nat.{ℕ, _*_}
 use mathlib.Core.Path.{_≡_}
 use mathlib.Core.Bool.{Bool, _&&_}
 use mathlib.Core.List.{List, []}
-use lib.Dec.{eqb, leb}
+use lib.Dec.{leb}
 use lib.ListN.{length, getD, take, drop}
-use Rattle.board.specs.Lists.{all, below}
+use Rattle.board.specs.Lists.{all, below, zeroFrom}
 use Rattle.board.specs.Sizes.{mostAtoms, mostRules, mostBody, mostW}
 use Rattle.board.specs.Board.{Hypothesis, W}
 use Rattle.board.specs.Accepted.{within}
@@ -33,10 +33,6 @@ unfoldable pub ruleStands : ℕ → List Hypothesis → List ℕ → List ℕ �
 ruleStands atoms hypotheses head body j =
     recordPasses (record { atoms = atoms; hypotheses = hypotheses; rules = rulesIn head body j })
     (rule (getD head j 0) (take mostBody (drop (mostBody * j) body)))
-
--- an array with nothing but zeros from n on
-unfoldable pub zeroFrom : ℕ → List ℕ → Bool
-zeroFrom n array = all (eqb 0) (drop n array)
 
 unfoldable pub sizesStand : Table → Bool
 sizesStand t = within 1 mostAtoms (t .atoms) && leb (t .hypotheses) mostAtoms && leb (t .rules) mostRules

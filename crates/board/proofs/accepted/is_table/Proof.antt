@@ -92,7 +92,7 @@ product-passes-requires c κs =
     let f = second3 g in
     let t = first2 f .before .before .args .t1 in
     declared-passing (t .atoms) (t .declaration) (t .atom) (t .weight) (t .hypotheses) _ (room-right (first2 f) .0) (T-of-true (hypotheses-right f))
-    (d .declarations-of .ensures (t .atom) (t .weight))
+    (d .declarations-of .ensures .0 (t .atom) (t .weight))
 
 -- the place of the third test, from that of the fourth
 abbrev third4 : tie.After-product-passes → tie.Else3

@@ -51,7 +51,7 @@ is-state-requires : tie.Need-is-state-requires
 is-state-requires c κs =
     let d = c .before .before .before in
     let e = d .before .before .before in
-    (room e, λ weights. d .declarations-of .ensures (e .before .before .before .args .t1 .atom) weights)
+    (room e, λ weights. d .declarations-of .ensures .0 (e .before .before .before .args .t1 .atom) weights)
 
 -- the place of the first test, from that of the second
 abbrev first : tie.After-is-state → tie.Else1

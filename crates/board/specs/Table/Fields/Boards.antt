@@ -6,9 +6,9 @@ use mathlib.Core.Bool.{_&&_}
 use mathlib.Core.List.{List, [], _∷_, _++_, map, flatten}
 use lib.Dec.{T, leb, le→leb}
 use lib.ListN.{length, getD, length-append, length-map, List·getD-map}
-use Rattle.board.specs.Lists.{pad}
+use Rattle.board.specs.Lists.{pad, zeroFrom}
 use Rattle.board.specs.Lists.Flatten.{take-drop-flatten}
-use Rattle.board.specs.Lists.Padding.{getD-pad, drop-pad-same}
+use Rattle.board.specs.Lists.Padding.{length-pad, getD-pad, drop-pad-same}
 use Rattle.board.specs.Lists.Tests.{and-both, and-left, and-right}
 use Rattle.board.specs.Sizes.{mostAtoms, mostRules, mostBody, mostW}
 use Rattle.board.specs.Board.{Board, Hypothesis, Rule, isHypothesis, W}
@@ -23,7 +23,7 @@ use Rattle.board.specs.Load.Rules.{afterRules, rulePasses-zero}
 use Rattle.board.specs.Table.{boardOf, placesOf, tableOf}
 use Rattle.board.specs.Table.Arrays.{noRule, boardOf-tableOf, hypothesesIn-tableOf}
 use Rattle.board.specs.Table.Bounds.{rules-bounds}
-use Rattle.board.specs.Table.Fields.{ruleStands, zeroFrom, sizesStand, roomStands}
+use Rattle.board.specs.Table.Fields.{Sized, ruleStands, sizesStand, roomStands}
 use Rattle.board.specs.Table.Passes.{recordPasses, hypothesesPass, rulePasses, rulesPass, soFar, boardPasses}
 use Rattle.board.specs.Table.Taking.{length-places}
 use Rattle.board.specs.Lent.Laws.{placesIn, length-rulesIn}
@@ -99,6 +99,22 @@ module _ (b : Board) (p : T (boardPasses b)) where
         drop-pad-same (mostBody * mostRules) (mostBody * length (b .rules)) 0 (flatten (map placesOf (b .rules)))
             (length-places (b .atoms) (b .hypotheses) (b .rules) (soFar-rules b read)),
       )
+
+  -- its arrays have their lengths
+  pub tableOf-sized : Sized (tableOf b)
+  unfolding tableOf
+  tableOf-sized =
+      let k = soFar-room b read in
+      let of : (f : Hypothesis → ℕ) → length (pad mostAtoms 0 (map f (b .hypotheses))) ≡ mostAtoms =
+      λ f. length-pad mostAtoms 0 (map f (b .hypotheses)) (omega (arith, k .0, length-map (b .hypotheses) f)) in
+      record {
+        declaration = of (λ h. h .declaration);
+        atom = of (λ h. h .atom);
+        weight = of (λ h. h .weight);
+        head = length-pad mostRules 0 (map (λ (r : Rule). r .head) (b .rules)) (omega (arith, k .1, length-map (b .rules) (λ (r : Rule). r .head)));
+        body = length-pad (mostBody * mostRules) 0 (flatten (map placesOf (b .rules)))
+            (omega (arith, k .1, length-places (b .atoms) (b .hypotheses) (b .rules) (soFar-rules b read)));
+      }
 
   -- all of its fields
   pub tableOf-stands : Stands (tableOf b)

@@ -9,7 +9,7 @@ use Rattle.board.specs.Load.Loaded.{loaded-passes}
 use Rattle.board.specs.Table.{boardOf, tableOf, sameTable, isTable}
 use Rattle.board.specs.Table.Arrays.{sameTable→eq}
 use Rattle.board.specs.Table.Fields.{Sized, fieldsStand}
-use Rattle.board.specs.Table.Fields.Boards.{tableOf-stands}
+use Rattle.board.specs.Table.Fields.Boards.{tableOf-sized, tableOf-stands}
 use Rattle.board.specs.Table.Fields.Parts.{Stands, fieldsStand→, →fieldsStand}
 use Rattle.board.specs.Table.Fields.Stored.{stands-passes, stands-stored}
 use Rattle.board.specs.Table.Laws.{passes-isTable, isTable-by-fields}
@@ -34,6 +34,10 @@ isTable-board t s = passes-accepted (boardOf t) (isTable-passes t s)
 -- the fields of a table that passes stand
 pub isTable-stands : (t : Table) → T (isTable t) → Stands t
 isTable-stands t s = rw (isTable-stored t s) (tableOf-stands (boardOf t) (isTable-passes t s))
+
+-- its arrays have the lengths that the code declares
+pub isTable-sized : (t : Table) → T (isTable t) → Sized t
+isTable-sized t s = rw (isTable-stored t s) (tableOf-sized (boardOf t) (isTable-passes t s))
 
 -- a table passes exactly if its fields stand
 pub isTable-fields : (t : Table) → Sized t → isTable t ≡ fieldsStand t

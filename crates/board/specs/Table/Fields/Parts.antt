@@ -3,7 +3,7 @@ use Prim.Native.Nat.{ℕ, _*_, _≤_, _<_}
 use mathlib.Core.Bool.{Bool, _&&_}
 use mathlib.Core.List.{List, []}
 use lib.Dec.{T, leb, leb→le, le→leb}
-use Rattle.board.specs.Lists.{all, below}
+use Rattle.board.specs.Lists.{all, below, zeroFrom}
 use Rattle.board.specs.Lists.Laws.{all-at}
 use Rattle.board.specs.Lists.Places.{below-of, all-below}
 use Rattle.board.specs.Lists.Tests.{and-left, and-right, and-five, five-and}
@@ -12,7 +12,7 @@ use Rattle.board.specs.Board.{Hypothesis, W}
 use Rattle.board.specs.Accepted.{within}
 use Rattle.board.specs.Accepted.Within.{within-low, within-high}
 use Rattle.board.specs.Table.{boardOf}
-use Rattle.board.specs.Table.Fields.{ruleStands, zeroFrom, sizesStand, roomStands, fieldsStand}
+use Rattle.board.specs.Table.Fields.{ruleStands, sizesStand, roomStands, fieldsStand}
 use Rattle.board.specs.Table.Passes.{hypothesesPass}
 use Rattle.board.specs.Lent.{hypothesesIn}
 use Rattle.board.specs.declared.Table.{Table}

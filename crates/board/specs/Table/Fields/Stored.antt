@@ -8,7 +8,7 @@ use lib.Dec.{T}
 use lib.ListN.{length, getD, take, length-take, length-drop}
 use lib.Seq.{take-add}
 use borrow.Author.Tests.{ne-eqb, le-ltb}
-use Rattle.board.specs.Lists.{pad, below}
+use Rattle.board.specs.Lists.{pad, below, zeroFrom}
 use Rattle.board.specs.Lists.Flatten.{flatten-map-snoc}
 use Rattle.board.specs.Lists.Padding.{pad-take}
 use Rattle.board.specs.Lists.Places.{map-getD-take}
@@ -20,7 +20,7 @@ use Rattle.board.specs.Load.Checks.{rule-filledFirst}
 use Rattle.board.specs.Load.Laws.{recordPasses-zero, soFar-of, soFar-rule, boardPasses-of}
 use Rattle.board.specs.Load.Rules.{afterRules}
 use Rattle.board.specs.Table.{boardOf, placesOf, tableOf}
-use Rattle.board.specs.Table.Fields.{Sized, ruleStands, zeroFrom}
+use Rattle.board.specs.Table.Fields.{Sized, ruleStands}
 use Rattle.board.specs.Table.Passes.{hypothesesPass, rulesPass, soFar, boardPasses}
 use Rattle.board.specs.Table.Places.{placesOf-filled}
 use Rattle.board.specs.Table.Taking.{table-path}

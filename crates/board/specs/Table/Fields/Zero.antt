@@ -6,8 +6,7 @@ use mathlib.Core.List.{List}
 use lib.ListN.{length, getD, drop-of-length-le}
 use lib.Seq.{drop-cons}
 use borrow.Author.Tests.{ne-eqb}
-use Rattle.board.specs.Lists.{all}
-use Rattle.board.specs.Table.Fields.{zeroFrom}
+use Rattle.board.specs.Lists.{all, zeroFrom}
 
 module _ (i : ℕ) (xs : List ℕ) where
   -- nothing is left past the end
