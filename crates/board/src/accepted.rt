@@ -18,7 +18,7 @@ ghost use Rattle.board.specs.Accepted.{within};
 ghost use Rattle.board.specs.Board.{declarationsIn};
 ghost use Rattle.board.specs.Table.{isTable};
 ghost use Rattle.board.specs.Table.Passes.{hypothesesPass};
-ghost use Rattle.board.specs.Table.Fields.{ruleStands};
+ghost use Rattle.board.specs.Table.Fields.{ruleStands, fieldsStand};
 ghost use Rattle.board.specs.Lent.{hypothesesIn};
 
 // One more than the greatest weight that three bytes hold.
@@ -166,29 +166,56 @@ fn room_stands<'a>(
     zero_bytes(body, 8 * rules)
 }
 
-// Does some file load to the table? Each of at most 128 hypotheses and 256 rules is checked against the hypotheses once: at most some
-// 500,000 basic steps. The table is some 3 KB, and nothing of it is copied.
+// Do all fields of the table stand whose counts and arrays these are? Each of at most 128 hypotheses and 256 rules is checked against the hypotheses
+// once: at most some 128 * 1,500 + 256 * 850 + 42,000 + 13,000 basic steps, so some 470,000.
+pub(crate) fn fields_stand<'a>(
+    atoms: usize,
+    hypotheses: usize,
+    rules: usize,
+    numbers: &'a [u8; 128],
+    atom: &'a [u8; 128],
+    weight: &'a [u32; 128],
+    head: &'a [u8; 256],
+    body: &'a [u8; 2048],
+) -> bool
+    ensures { λ r.
+        ⌜ r ≡ fieldsStand (record {
+            atoms = atoms;
+            hypotheses = hypotheses;
+            rules = rules;
+            declaration = now (numbers .entry);
+            atom = now (atom .entry);
+            weight = now (weight .entry);
+            head = now (head .entry);
+            body = now (body .entry)
+        }) ⌝ }
+{
+    if !sizes_stand(atoms, hypotheses, rules) {
+        return false;
+    }
+    if !hypotheses_pass(atoms, hypotheses, numbers, atom, weight) {
+        return false;
+    }
+    if !rules_pass(atoms, hypotheses, rules, atom, head, body) {
+        return false;
+    }
+    let declarations = declarations_of(numbers, hypotheses);
+    if product_passes(numbers, weight, hypotheses, declarations) {
+        return false;
+    }
+    room_stands(hypotheses, rules, numbers, atom, weight, head, body)
+}
+
+// Does some file load to the table? At most some 470,000 basic steps. Its stack is the table that is handed in, some 3 KB, and some hundred bytes.
 pub fn is_table(t: Table) -> bool
     ensures { λ r. ⌜ r ≡ isTable t ⌝ }
 {
     let atoms = t.atoms;
-    let n = t.hypotheses;
+    let hypotheses = t.hypotheses;
     let rules = t.rules;
-    if !sizes_stand(atoms, n, rules) {
-        return false;
-    }
-    if !hypotheses_pass(atoms, n, &t.declaration, &t.atom, &t.weight) {
-        return false;
-    }
-    if !rules_pass(atoms, n, rules, &t.atom, &t.head, &t.body) {
-        return false;
-    }
-    let declarations = declarations_of(&t.declaration, n);
-    if product_passes(&t.declaration, &t.weight, n, declarations) {
-        return false;
-    }
-    room_stands(
-        n,
+    fields_stand(
+        atoms,
+        hypotheses,
         rules,
         &t.declaration,
         &t.atom,

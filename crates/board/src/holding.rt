@@ -6,7 +6,7 @@
 use crate::Table;
 use crate::Told;
 use crate::accepted::declarations_of;
-use crate::accepted::is_table;
+use crate::accepted::fields_stand;
 ghost use mathlib.Core.Path.{_≡_};
 ghost use mathlib.Core.List.{List};
 ghost use Prim.Native.Nat.{ℕ, _<_, _≤_};
@@ -179,7 +179,16 @@ pub fn yes_or_no(t: Table, state: &[u8], atom: u8) -> Told
     let atoms = t.atoms;
     let n = t.hypotheses;
     let rules = t.rules;
-    if !is_table(t) {
+    if !fields_stand(
+        atoms,
+        n,
+        rules,
+        &t.declaration,
+        &t.atom,
+        &t.weight,
+        &t.head,
+        &t.body,
+    ) {
         return Told::Refused(20);
     }
     let declarations = declarations_of(&t.declaration, n);

@@ -3,7 +3,6 @@ use native.Mathlib.Omega.{arith}
 use mathlib.Core.Path.{_≡_, sym, ap, _∙_}
 use mathlib.Core.Bool.{Bool, true, false}
 use Prim.Native.Nat.{_≤_}
-use lib.ListN.{length}
 use denote.Ref.{now}
 use borrow.Author.Tests.{not-true, not-false, le-leb, lt-leb}
 use Rattle.board.specs.Lists.Tests.{T-of-true}
@@ -14,7 +13,8 @@ use Rattle.board.specs.Holds.Remembered.{rulesAlone}
 use Rattle.board.specs.Holds.Remembered.Laws.{holds-rules, declarations-hypotheses}
 use Rattle.board.specs.Holds.Remembered.Tables.{table-sound}
 use Rattle.board.specs.Table.{boardOf, isTable}
-use Rattle.board.specs.Table.Fields.Laws.{isTable-stands}
+use Rattle.board.specs.Table.Fields.{Sized}
+use Rattle.board.specs.Table.Fields.Laws.{isTable-fields, isTable-stands}
 use Rattle.board.specs.Table.Fields.Parts.{sizes-parts}
 use Rattle.board.specs.Lent.{hypothesesIn, boardOf-lent}
 use Rattle.board.specs.EntryPoints.{toldMeans, yesOrNo}
@@ -22,26 +22,34 @@ use borrow.Author.Needs.{needs}
 use Rattle.board.proofs.holding.yes_or_no.Statement.{statement}
 use Rattle.board.proofs.holding.yes_or_no.Tie as tie
 
-is-table-requires : tie.Need-is-table-requires
-is-table-requires c κs = search needs
+-- the function's entry, from the fields' test
+abbrev start : tie.After-fields-stand → tie.Start
+start c = c .before .before .before .before .before .before .before .before
+
+-- the arrays have their lengths
+sized : (c : tie.Start) → Sized (c .args .t1)
+sized c = record { declaration = search needs; atom = search needs; weight = search needs; head = search needs; body = search needs }
+
+-- the fields' test is the table's
+fields : (c : tie.After-fields-stand) → isTable (start c .args .t1) ≡ c .fields-stand .result
+fields c = isTable-fields _ (sized (start c)) ∙ sym (c .fields-stand .ensures)
+
+fields-stand-requires : tie.Need-fields-stand-requires
+fields-stand-requires c κs = search needs
 
 returns : tie.Need-returns
 unfolding toldMeans yesOrNo
-returns c = simp (sym (c .before .is-table .ensures) ∙ not-true _ (c .if1 .taken))
+returns c = simp (fields (c .before) ∙ not-true _ (c .if1 .taken))
 
 -- ---- what the tests found, place by place
 
--- the bodies' array has its length
-long : (c : tie.Start) → length (c .args .t1 .body) ≡ 2048
-long c = search needs
-
 -- some file loads to the table
-accepted : (c : tie.Else1) → isTable (c .before .before .before .args .t1) ≡ true
-accepted c = sym (c .before .is-table .ensures) ∙ not-false _ (c .if1 .left)
+accepted : (c : tie.Else1) → isTable (start (c .before) .args .t1) ≡ true
+accepted c = fields (c .before) ∙ not-false _ (c .if1 .left)
 
-room : (c : tie.Else1) → c .before .before .before .args .t1 .hypotheses ≤ 128
+room : (c : tie.Else1) → start (c .before) .args .t1 .hypotheses ≤ 128
 room c =
-    let t = c .before .before .before .args .t1 in
+    let t = start (c .before) .args .t1 in
     omega (arith, sizes-parts t (isTable-stands t (T-of-true (accepted c)) .sizes))
 
 declarations-of-requires : tie.Need-declarations-of-requires
@@ -51,17 +59,17 @@ is-state-requires : tie.Need-is-state-requires
 is-state-requires c κs =
     let d = c .before .before .before in
     let e = d .before .before .before in
-    (room e, λ weights. d .declarations-of .ensures .0 (e .before .before .before .args .t1 .atom) weights)
+    (room e, λ weights. d .declarations-of .ensures .0 (start (e .before) .args .t1 .atom) weights)
 
 -- the place of the first test, from that of the second
 abbrev first : tie.After-is-state → tie.Else1
 first c = c .before .before .before .before .before .before .before
 
 -- the state's test, said of the board
-state-test : (c : tie.After-is-state) (u : Bool) → c .is-state .result ≡ u → let a = first c .before .before .before .args in
+state-test : (c : tie.After-is-state) (u : Bool) → c .is-state .result ≡ u → let a = start (first c .before) .args in
     isStateOf (declarations (boardOf (a .t1))) (now (a .state)) ≡ u
 state-test c u e =
-    let a = first c .before .before .before .args in
+    let a = start (first c .before) .args in
     let same : boardOf (a .t1) .hypotheses ≡ hypothesesIn (a .t1 .declaration) (a .t1 .atom) (a .t1 .weight) (a .t1 .hypotheses) =
     ap (λ (b : Board). b .hypotheses) (boardOf-lent (a .t1)) in
     rw (declarations-hypotheses (boardOf (a .t1)), same) (sym (c .is-state .ensures (a .t1 .weight)) ∙ e)
@@ -77,36 +85,36 @@ returns-3 : tie.Need-returns-3
 unfolding toldMeans yesOrNo
 returns-3 c =
     let s = c .before .before .before in
-    let a = first s .before .before .before .args in
+    let a = start (first s .before) .args in
     simp (accepted (first s), state-test s true (not-false _ (c .before .before .if2 .left)), le-leb (a .t1 .atoms) (a .atom) (omega (arith, c .before .index .ensures)))
 
 holds-in-requires : tie.Need-holds-in-requires
 holds-in-requires c κs =
     let i = c .before .before .before .before in
     let e = first (i .before .before) in
-    let t = e .before .before .before .args .t1 in
-    (table-sound t (T-of-true (accepted e)) (long (e .before .before .before)), omega (arith, sizes-parts t (isTable-stands t (T-of-true (accepted e)) .sizes), i .index .ensures))
+    let t = start (e .before) .args .t1 in
+    (table-sound t (T-of-true (accepted e)) (sized (start (e .before)) .body), omega (arith, sizes-parts t (isTable-stands t (T-of-true (accepted e)) .sizes), i .index .ensures))
 
 -- the holding test, said of the board
 holding-test : (c : tie.After-holds-in) (u : Bool) → c .holds-in .result ≡ u
-    → let a = first (c .before .before .before .before .before .before .before) .before .before .before .args in
+    → let a = start (first (c .before .before .before .before .before .before .before) .before) .args in
     holds (inState (now (a .state))) (boardOf (a .t1)) (a .atom) ≡ u
 holding-test c u e =
-    let a = first (c .before .before .before .before .before .before .before) .before .before .before .args in
+    let a = start (first (c .before .before .before .before .before .before .before) .before) .args in
     holds-rules (inState (now (a .state))) (boardOf (a .t1)) (a .atom)
     ∙ ap (λ (b : Board). holds (inState (now (a .state))) (rulesAlone (b .rules)) (a .atom)) (boardOf-lent (a .t1))
     ∙ sym (c .holds-in .ensures) ∙ e
 
 -- the three refusals are past, and the answer is the holding test's
 past : (c : tie.After-holds-in) (u : Bool) → c .holds-in .result ≡ u
-    → let a = first (c .before .before .before .before .before .before .before) .before .before .before .args in
+    → let a = start (first (c .before .before .before .before .before .before .before) .before) .args in
     yesOrNo (a .t1) (now (a .state)) (a .atom) ≡ granted u
 unfolding yesOrNo
 past c u e =
     let g = c .before .before .before .before in
     let i = g .before in
     let s = i .before .before in
-    let a = first s .before .before .before .args in
+    let a = start (first s .before) .args in
     simp (accepted (first s), state-test s true (not-false _ (i .before .if2 .left)), lt-leb (a .t1 .atoms) (a .atom) (omega (arith, i .index .ensures)), holding-test c u e)
 
 returns-4 : tie.Need-returns-4
@@ -121,7 +129,7 @@ pub yes-or-no-spec : {M : Type 1} → statement M
 yes-or-no-spec =
     tie.close
     (tie.spec
-    is-table-requires
+    fields-stand-requires
     returns
     declarations-of-requires
     is-state-requires
