@@ -4,7 +4,7 @@ use crate::Table;
 use crate::checks::hypothesis_refusal;
 use crate::checks::rule_refusal;
 use crate::record::eight_bytes;
-use crate::weights::most;
+use crate::weights::larger;
 use crate::weights::product_passes;
 use crate::weights::wide;
 ghost use mathlib.Core.Path.{_≡_};
@@ -21,8 +21,8 @@ ghost use Rattle.board.specs.Table.Passes.{hypothesesPass};
 ghost use Rattle.board.specs.Table.Fields.{ruleStands, fieldsStand};
 ghost use Rattle.board.specs.Lent.{hypothesesIn};
 
-// One more than the greatest weight that three bytes hold.
-const WEIGHTS: u32 = 16_777_216;
+// The greatest weight: three bytes hold it.
+const MOST_WEIGHT: u32 = 16_777_215;
 
 // How many declarations the first `n` hypotheses have: at most 256, since a byte numbers them.
 pub(crate) fn declarations_of(numbers: &[u8; 128], n: usize) -> usize
@@ -33,7 +33,7 @@ pub(crate) fn declarations_of(numbers: &[u8; 128], n: usize) -> usize
     let mut declarations = 0;
     let mut i = 0;
     while i < n {
-        declarations = most(declarations, wide(numbers[i]) + 1);
+        declarations = larger(declarations, wide(numbers[i]) + 1);
         i += 1;
     }
     declarations
@@ -55,13 +55,13 @@ fn hypotheses_pass<'a>(
     while i < n {
         let d = numbers[i];
         let w = weight[i];
-        if WEIGHTS <= w {
+        if MOST_WEIGHT < w {
             return false;
         }
         if hypothesis_refusal(atoms, i, declarations, numbers, atom, d, atom[i], w) != 0 {
             return false;
         }
-        declarations = most(declarations, wide(d) + 1);
+        declarations = larger(declarations, wide(d) + 1);
         i += 1;
     }
     true
@@ -180,14 +180,14 @@ pub(crate) fn fields_stand<'a>(
 ) -> bool
     ensures { λ r.
         ⌜ r ≡ fieldsStand (record {
-            atoms = atoms;
-            hypotheses = hypotheses;
-            rules = rules;
-            declaration = now (numbers .entry);
-            atom = now (atom .entry);
-            weight = now (weight .entry);
-            head = now (head .entry);
-            body = now (body .entry)
+          atoms = atoms;
+          hypotheses = hypotheses;
+          rules = rules;
+          declaration = now (numbers .entry);
+          atom = now (atom .entry);
+          weight = now (weight .entry);
+          head = now (head .entry);
+          body = now (body .entry);
         }) ⌝ }
 {
     if !sizes_stand(atoms, hypotheses, rules) {

@@ -43,7 +43,8 @@ fn follows(number: usize, declarations: usize) -> bool
     number == declarations
 }
 
-// The number of the first check that a hypothesis record fails, 0 where it fails none. Some 300 basic steps at most.
+// The number of the first check that a hypothesis record fails, 0 where it fails none. Two walks over the hypotheses: at most some 11 n + 25 basic
+// steps for n hypotheses, so some 1,450.
 pub(crate) fn hypothesis_refusal<'a>(
     atoms: usize,
     hypotheses: usize,
@@ -82,7 +83,8 @@ pub(crate) fn hypothesis_refusal<'a>(
     0
 }
 
-// The number of the first check that a rule record fails, 0 where it fails none. Some 300 basic steps at most.
+// The number of the first check that a rule record fails, 0 where it fails none. Three walks over the places and one over the hypotheses: at most some
+// 830 basic steps.
 pub(crate) fn rule_refusal(
     atoms: usize,
     hypotheses: usize,
@@ -117,7 +119,8 @@ pub(crate) fn rule_refusal(
     0
 }
 
-// The number of the check that the end record fails, 0 where it fails none: 32 walks over the hypotheses, some 20,000 basic steps.
+// The number of the check that the end record fails, 0 where it fails none: 32 walks over the hypotheses, at most some 41,400 basic
+// steps.
 fn end_refusal<'a>(
     numbers: &'a [u8; 128],
     weight: &'a [u32; 128],

@@ -7,6 +7,7 @@ use crate::Table;
 use crate::Told;
 use crate::accepted::declarations_of;
 use crate::accepted::fields_stand;
+use crate::weights::wide;
 ghost use mathlib.Core.Path.{_≡_};
 ghost use mathlib.Core.List.{List};
 ghost use Prim.Native.Nat.{ℕ, _<_, _≤_};
@@ -16,13 +17,6 @@ ghost use Rattle.board.specs.EntryPoints.{toldMeans, yesOrNo};
 ghost use Rattle.board.specs.Lent.{hypothesesIn};
 ghost use Rattle.board.specs.Holds.{inState, ruleHolds};
 ghost use Rattle.board.specs.Holds.Remembered.{hypothesesAlone, ruleIn, lentHolds, SoundRules, Remembered};
-
-// A byte as a number that can count. One step.
-fn index(x: u8) -> usize
-    ensures { λ r. ⌜ r ≡ x ⌝ }
-{
-    x as usize
-}
 
 // Whether the state chooses the atom: at most some 5 d + 4 steps.
 pub(crate) fn in_state(state: &[u8], a: u8) -> bool
@@ -128,13 +122,13 @@ pub(crate) fn holds_in<'a>(
 }
 
 // Whether some hypothesis of declaration `d` has the atom: at most some 7 n + 3 steps.
-fn is_choice(declared: &[u8; 128], atom: &[u8; 128], hypotheses: usize, d: usize, a: u8) -> bool
+fn is_choice(numbers: &[u8; 128], atom: &[u8; 128], hypotheses: usize, d: usize, a: u8) -> bool
     requires { ⌜ hypotheses ≤ mostAtoms ⌝ }
-    ensures { λ r. ⌜ ((weights : List ℕ) → r ≡ isAtomOf (declaration (hypothesesIn (now (declared .entry)) (now (atom .entry)) weights hypotheses) d) a) ⌝ }
+    ensures { λ r. ⌜ ((weights : List ℕ) → r ≡ isAtomOf (declaration (hypothesesIn (now (numbers .entry)) (now (atom .entry)) weights hypotheses) d) a) ⌝ }
 {
     let mut k = 0;
     while k < hypotheses {
-        if index(declared[k]) == d {
+        if wide(numbers[k]) == d {
             if atom[k] == a {
                 return true;
             }
@@ -147,22 +141,22 @@ fn is_choice(declared: &[u8; 128], atom: &[u8; 128], hypotheses: usize, d: usize
 // Whether the state is one choice per declaration, in declaration order, where `count` is how many declarations there are:
 // at most some d * (7 n + 12) + 5 steps.
 pub(crate) fn is_state<'a>(
-    declared: &'a [u8; 128],
+    numbers: &'a [u8; 128],
     atom: &'a [u8; 128],
     hypotheses: usize,
     count: usize,
     state: &[u8],
 ) -> bool
     requires { ⌜ hypotheses ≤ mostAtoms ⌝ }
-    requires { ⌜ ((weights : List ℕ) → count ≡ declarationsIn (hypothesesIn (now declared) (now atom) weights hypotheses)) ⌝ }
-    ensures { λ r. ⌜ ((weights : List ℕ) → r ≡ isStateOf (declarations (hypothesesAlone (hypothesesIn (now (declared .entry)) (now (atom .entry)) weights hypotheses))) (now (state .entry))) ⌝ }
+    requires { ⌜ ((weights : List ℕ) → count ≡ declarationsIn (hypothesesIn (now numbers) (now atom) weights hypotheses)) ⌝ }
+    ensures { λ r. ⌜ ((weights : List ℕ) → r ≡ isStateOf (declarations (hypothesesAlone (hypothesesIn (now (numbers .entry)) (now (atom .entry)) weights hypotheses))) (now (state .entry))) ⌝ }
 {
     if state.len() != count {
         return false;
     }
     let mut i = 0;
     while i < state.len() {
-        if !is_choice(declared, atom, hypotheses, i, state[i]) {
+        if !is_choice(numbers, atom, hypotheses, i, state[i]) {
             return false;
         }
         i += 1;
@@ -171,8 +165,9 @@ pub(crate) fn is_state<'a>(
 }
 
 // Does the atom hold in the board state, a choice of each declaration handed in as atoms in declaration order? Refuses with 20 a table that no file
-// loads to, with 25 what is no board state and with 22 an atom that is none, in that order. At most some 900,000 basic steps on any table, most of
-// them for 20; the stack is that of 2 * 128 calls and one array of 128 bytes.
+// loads to, with 25 what is no board state and with 22 an atom that is none, in that order. At most some 900,000 basic steps on any table, half of
+// them for 20. Its stack is the table that is handed in, some 3 KB, and at most 128 calls of the atom test within each other, measured at 96 bytes
+// each, so some 16 KB in all.
 pub fn yes_or_no(t: Table, state: &[u8], atom: u8) -> Told
     ensures { λ r. ⌜ toldMeans r ≡ yesOrNo t (now (state .entry)) atom ⌝ }
 {
@@ -195,7 +190,7 @@ pub fn yes_or_no(t: Table, state: &[u8], atom: u8) -> Told
     if !is_state(&t.declaration, &t.atom, n, declarations, state) {
         return Told::Refused(25);
     }
-    if atoms <= index(atom) {
+    if atoms <= wide(atom) {
         return Told::Refused(22);
     }
     if holds_in(&t.head, &t.body, rules, state, atom) {

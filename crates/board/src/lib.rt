@@ -1,5 +1,9 @@
 // Board tables: what a board file says, and what holds on the board. This crate knows nothing of searching.
-// A board file is read record by record (`record`) and loaded into a `Table`.
+//
+// - `record::read_record` reads one record of a board file, `load::load` a whole file into a `Table`;
+// - `accepted::is_table` tells whether some file loads to a table;
+// - `holding::yes_or_no` tells whether an atom holds in a board state;
+// - `facts` has the few facts of a table that a search asks for once.
 //
 // Its meaning is in `specs/`; every contract here is an equation with a definition of document 01 there.
 ghost use mathlib.Core.Path.{_≡_};
@@ -47,7 +51,7 @@ pub enum Told {
     Refused(u8),
 }
 
-// The table whose every field is zero, which a refused load hands back. 6 stores of some 3 KB in all.
+// The table whose every field is zero, which a refused load hands back. Three counts and five arrays, some 3 KB.
 pub(crate) fn zero_table() -> Table
     ensures { λ r. ⌜ r ≡ zeroTable ⌝ }
 {

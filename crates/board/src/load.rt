@@ -6,7 +6,7 @@ use crate::places::put;
 use crate::record::Read;
 use crate::record::Record;
 use crate::record::read_record;
-use crate::weights::most;
+use crate::weights::larger;
 use crate::weights::wide;
 use crate::zero_table;
 ghost use mathlib.Core.Path.{_≡_};
@@ -51,7 +51,8 @@ fn misplaced_here(kind: u8, atoms: usize, rules: usize) -> bool
     false
 }
 
-// The refusal that reading a record answered.
+// The refusal that reading a record answered. A record that was read is no refusal, and no caller hands one in; its arm is there because a match
+// needs it.
 fn refused_read(answer: Read) -> Loading
     ensures { λ r. ⌜ ((number place : ℕ) → readMeans answer ≡ refusedAt number place → Refuses r number place) ⌝ }
 {
@@ -61,8 +62,9 @@ fn refused_read(answer: Read) -> Loading
     }
 }
 
-// Loads a board file: the table, or the number of the refusal and its place. A record costs some 300 basic steps and the end record some 20,000;
-// a file is read up to its first failing record, and no more than 386 records pass. The table is built in place, some 3 KB of stack.
+// Loads a board file: the table, or the number of the refusal and its place. A file is read up to its first failing record, and no more than 386 records
+// pass: 128 hypotheses at some 1,600 basic steps, 256 rules at some 1,000, and the end at some 41,500, so at most some 500,000 in all, however long the
+// file. The table is built in place and copied out once, some 3 KB of stack each.
 pub fn load(file: &[u8]) -> Loading
     ensures { λ r. ⌜ LoadsAs (load (now (file .entry))) r ⌝ }
 {
@@ -103,7 +105,7 @@ pub fn load(file: &[u8]) -> Loading
                 t.atom[i] = a;
                 t.weight[i] = w;
                 t.hypotheses = i + 1;
-                declarations = most(declarations, wide(d) + 1);
+                declarations = larger(declarations, wide(d) + 1);
             }
             Record::Rule(head, places) => {
                 let i = t.rules;

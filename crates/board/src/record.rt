@@ -80,7 +80,7 @@ fn read_body(file: &[u8], kind: u8, at: usize) -> Record
 }
 
 // Reads the record at a place of a board file. A place past the end counts as the file's length.
-// At most some 60 basic steps, whatever the file.
+// At most some 100 basic steps, whatever the file.
 pub fn read_record(file: &[u8], at: usize) -> Read
     ensures { λ r. ⌜ readMeans r ≡ readRecord (now (file .entry)) at ⌝ }
 {

@@ -33,7 +33,7 @@ table c =
       atom = now (a .atom);
       weight = now (a .weight);
       head = now (a .head);
-      body = now (a .body)
+      body = now (a .body);
     }
 
 sizes-stand-requires : tie.Need-sizes-stand-requires
@@ -105,8 +105,12 @@ returns-4 c =
     let f = g .before .before in
     let e = f .before .before in
     let t = table (e .before .before) in
-    simp (sizes-right e, hypotheses-right f, rules-right g,
-    lt-leb (W (boardOf t)) mostW (ltb-true mostW (W (boardOf t)) (W-test (c .before) true (c .if4 .taken))))
+    simp (
+      sizes-right e,
+      hypotheses-right f,
+      rules-right g,
+      lt-leb (W (boardOf t)) mostW (ltb-true mostW (W (boardOf t)) (W-test (c .before) true (c .if4 .taken))),
+    )
 
 room-stands-requires : tie.Need-room-stands-requires
 room-stands-requires c κs = room-right (c .before .before .before .before .before .before .before) .1
@@ -119,8 +123,12 @@ returns-5 c =
     let f = g .before .before in
     let e = f .before .before in
     let t = table (e .before .before) in
-    simp (sizes-right e, hypotheses-right f, rules-right g,
-    le-leb (W (boardOf t)) mostW (ltb-false mostW (W (boardOf t)) (W-test (h .before) false (h .if4 .left)))) (c .room-stands .ensures)
+    simp (
+      sizes-right e,
+      hypotheses-right f,
+      rules-right g,
+      le-leb (W (boardOf t)) mostW (ltb-false mostW (W (boardOf t)) (W-test (h .before) false (h .if4 .left))),
+    ) (c .room-stands .ensures)
 
 pub fields-stand-spec : {M : Type 1} → statement M
 fields-stand-spec =

@@ -61,11 +61,11 @@ returns-2 c =
 wide-requires : tie.Need-wide-requires Inv-loop μ-loop
 wide-requires c κs = tt
 
-add-most : tie.Need-add-most Inv-loop μ-loop
-add-most c = omega (arith, c .wide .ensures .1)
+add-larger : tie.Need-add-larger Inv-loop μ-loop
+add-larger c = omega (arith, c .wide .ensures .1)
 
-most-requires : tie.Need-most-requires Inv-loop μ-loop
-most-requires c κs = tt
+larger-requires : tie.Need-larger-requires Inv-loop μ-loop
+larger-requires c κs = tt
 
 add-i : tie.Need-add-i Inv-loop μ-loop
 add-i c = omega arith
@@ -80,7 +80,7 @@ loop-again c =
     let e = c .before .before in
     let next : suc (l .i) ≡ l .i + 1 = sym (add-one (l .i)) in (
       omega arith,
-      c .most .ensures
+      c .larger .ensures
           ∙ ap₂ max (l .inv .1) (ap (λ (x : ℕ). x + 1) (c .before .wide .ensures .0) ∙ add-one (getD (now (a .numbers)) (l .i) 0))
           ∙ sym (declarationsIn-more (now (a .numbers)) [] [] (l .i))
           ∙ ap (λ (k : ℕ). declarationsIn (hypothesesIn (now (a .numbers)) [] [] k)) next,
@@ -110,8 +110,8 @@ hypotheses-pass-spec =
     hypothesis-refusal-requires
     returns-2
     wide-requires
-    add-most
-    most-requires
+    add-larger
+    larger-requires
     add-i
     loop-less
     loop-again

@@ -12,20 +12,20 @@ use Rattle.board.proofs.holding.is_choice.Statement.{statement}
 use Rattle.board.proofs.holding.is_choice.Tie as tie
 
 abbrev Inv-loop : tie.InvT-loop
-Inv-loop declared atom hypotheses d a k₀ k =
-    (k ≤ hypotheses) × ((i : ℕ) → i < k → getD declared i 0 ≡ d → getD atom i 0 ≡ a → ⊥)
+Inv-loop numbers atom hypotheses d a k₀ k =
+    (k ≤ hypotheses) × ((i : ℕ) → i < k → getD numbers i 0 ≡ d → getD atom i 0 ≡ a → ⊥)
 
 abbrev μ-loop : tie.MeasureT-loop
-μ-loop declared atom hypotheses d a k₀ k = hypotheses - k
+μ-loop numbers atom hypotheses d a k₀ k = hypotheses - k
 
 loop-holds : tie.Need-loop-holds Inv-loop μ-loop
 loop-holds c = (omega arith, below-none _)
 
-element-copy-out-index : tie.Need-element-copy-out-index Inv-loop μ-loop
-element-copy-out-index c = search needs
+element-copy-out-wide : tie.Need-element-copy-out-wide Inv-loop μ-loop
+element-copy-out-wide c = search needs
 
-index-requires : tie.Need-index-requires Inv-loop μ-loop
-index-requires c κs = search needs
+wide-requires : tie.Need-wide-requires Inv-loop μ-loop
+wide-requires c κs = search needs
 
 element-copy-out-if2 : tie.Need-element-copy-out-if2 Inv-loop μ-loop
 element-copy-out-if2 c = search needs
@@ -33,7 +33,7 @@ element-copy-out-if2 c = search needs
 returns : tie.Need-returns Inv-loop μ-loop
 returns c w =
     let a = c .before .before .before .before .before .before .before .args in
-    choice-here (now (a .declared)) (now (a .atom)) w (a .hypotheses) (a .d) (a .a) (c .before .before .before .before .before .before .loop .k)
+    choice-here (now (a .numbers)) (now (a .atom)) w (a .hypotheses) (a .d) (a .a) (c .before .before .before .before .before .before .loop .k)
     (omega arith) (cc) (c .if2 .taken)
 
 add-k : tie.Need-add-k Inv-loop μ-loop
@@ -45,13 +45,13 @@ loop-less c = search needs
 loop-again : tie.Need-loop-again Inv-loop μ-loop
 loop-again c = (
   search needs,
-  below-more _ _ (c .before .before .before .before .loop .inv .1) (⊎-elim (λ w e f. w .2 .left f) (λ w e f. w .left (c .before .index .ensures ∙ e)) (c .if1 .came)),
+  below-more _ _ (c .before .before .before .before .loop .inv .1) (⊎-elim (λ w e f. w .2 .left f) (λ w e f. w .left (c .before .wide .ensures .0 ∙ e)) (c .if1 .came)),
 )
 
 returns-2 : tie.Need-returns-2 Inv-loop μ-loop
 returns-2 c w =
     let a = c .before .before .args in
-    choice-nowhere (now (a .declared)) (now (a .atom)) w (a .hypotheses) (a .d) (a .a) (λ k l. c .before .loop .inv .1 k (omega arith))
+    choice-nowhere (now (a .numbers)) (now (a .atom)) w (a .hypotheses) (a .d) (a .a) (λ k l. c .before .loop .inv .1 k (omega arith))
 
 pub is-choice-spec : {M : Type 1} → statement M
 is-choice-spec =
@@ -60,8 +60,8 @@ is-choice-spec =
     Inv-loop
     μ-loop
     loop-holds
-    element-copy-out-index
-    index-requires
+    element-copy-out-wide
+    wide-requires
     element-copy-out-if2
     returns
     add-k

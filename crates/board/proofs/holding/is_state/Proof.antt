@@ -17,16 +17,16 @@ use Rattle.board.proofs.holding.is_state.Statement.{statement}
 use Rattle.board.proofs.holding.is_state.Tie as tie
 
 abbrev Inv-loop : tie.InvT-loop
-Inv-loop declared atom hypotheses count state i₀ i =
+Inv-loop numbers atom hypotheses count state i₀ i =
     (i ≤ length state)
-    × ((k : ℕ) → k < i → (w : List ℕ) → true ≡ isAtomOf (declaration (hypothesesIn declared atom w hypotheses) k) (getD state k 0))
+    × ((k : ℕ) → k < i → (w : List ℕ) → true ≡ isAtomOf (declaration (hypothesesIn numbers atom w hypotheses) k) (getD state k 0))
 
 abbrev μ-loop : tie.MeasureT-loop
-μ-loop declared atom hypotheses count state i₀ i = length state - i
+μ-loop numbers atom hypotheses count state i₀ i = length state - i
 
 returns : tie.Need-returns Inv-loop μ-loop
 returns c w = let a = c .before .before .args in
-    no-state-length (hypothesesAlone (hypothesesIn (now (a .declared)) (now (a .atom)) w (a .hypotheses))) (now (a .state)) (λ e. c .if1 .taken (e ∙ sym (c .before .before .pre .1 w)))
+    no-state-length (hypothesesAlone (hypothesesIn (now (a .numbers)) (now (a .atom)) w (a .hypotheses))) (now (a .state)) (λ e. c .if1 .taken (e ∙ sym (c .before .before .pre .1 w)))
 
 loop-holds : tie.Need-loop-holds Inv-loop μ-loop
 loop-holds c = (omega arith, below-none _)
@@ -39,7 +39,7 @@ is-choice-requires c κs = search needs
 
 returns-2 : tie.Need-returns-2 Inv-loop μ-loop
 returns-2 c w = let a = c .before .before .before .before .before .before .before .args in
-    no-state-at (hypothesesAlone (hypothesesIn (now (a .declared)) (now (a .atom)) w (a .hypotheses))) (now (a .state))
+    no-state-at (hypothesesAlone (hypothesesIn (now (a .numbers)) (now (a .atom)) w (a .hypotheses))) (now (a .state))
     (c .before .before .before .before .loop .i) (omega arith) (rw (not-true (c .before .is-choice .result) (c .if2 .taken)) at (c .before .is-choice .ensures w))
 
 add-i : tie.Need-add-i Inv-loop μ-loop
@@ -53,7 +53,7 @@ loop-again c = (search needs, below-more _ _ (c .before .before .before .before 
 
 returns-3 : tie.Need-returns-3 Inv-loop μ-loop
 returns-3 c w = let a = c .before .before .before .before .args in
-    is-state (hypothesesAlone (hypothesesIn (now (a .declared)) (now (a .atom)) w (a .hypotheses))) (now (a .state)) (omega (arith, c .before .before .before .before .pre .1 w)) (λ i l. c .before .loop .inv .1 i (omega arith) w)
+    is-state (hypothesesAlone (hypothesesIn (now (a .numbers)) (now (a .atom)) w (a .hypotheses))) (now (a .state)) (omega (arith, c .before .before .before .before .pre .1 w)) (λ i l. c .before .loop .inv .1 i (omega arith) w)
 
 pub is-state-spec : {M : Type 1} → statement M
 is-state-spec =

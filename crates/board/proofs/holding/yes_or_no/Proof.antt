@@ -78,22 +78,22 @@ returns-2 : tie.Need-returns-2
 unfolding toldMeans yesOrNo
 returns-2 c = simp (accepted (first (c .before)), state-test (c .before) false (not-true _ (c .if2 .taken)))
 
-index-requires : tie.Need-index-requires
-index-requires c κs = tt
+wide-requires : tie.Need-wide-requires
+wide-requires c κs = tt
 
 returns-3 : tie.Need-returns-3
 unfolding toldMeans yesOrNo
 returns-3 c =
     let s = c .before .before .before in
     let a = start (first s .before) .args in
-    simp (accepted (first s), state-test s true (not-false _ (c .before .before .if2 .left)), le-leb (a .t1 .atoms) (a .atom) (omega (arith, c .before .index .ensures)))
+    simp (accepted (first s), state-test s true (not-false _ (c .before .before .if2 .left)), le-leb (a .t1 .atoms) (a .atom) (omega (arith, c .before .wide .ensures .0)))
 
 holds-in-requires : tie.Need-holds-in-requires
 holds-in-requires c κs =
     let i = c .before .before .before .before in
     let e = first (i .before .before) in
     let t = start (e .before) .args .t1 in
-    (table-sound t (T-of-true (accepted e)) (sized (start (e .before)) .body), omega (arith, sizes-parts t (isTable-stands t (T-of-true (accepted e)) .sizes), i .index .ensures))
+    (table-sound t (T-of-true (accepted e)) (sized (start (e .before)) .body), omega (arith, sizes-parts t (isTable-stands t (T-of-true (accepted e)) .sizes), i .wide .ensures .0))
 
 -- the holding test, said of the board
 holding-test : (c : tie.After-holds-in) (u : Bool) → c .holds-in .result ≡ u
@@ -115,7 +115,7 @@ past c u e =
     let i = g .before in
     let s = i .before .before in
     let a = start (first s .before) .args in
-    simp (accepted (first s), state-test s true (not-false _ (i .before .if2 .left)), lt-leb (a .t1 .atoms) (a .atom) (omega (arith, i .index .ensures)), holding-test c u e)
+    simp (accepted (first s), state-test s true (not-false _ (i .before .if2 .left)), lt-leb (a .t1 .atoms) (a .atom) (omega (arith, i .wide .ensures .0)), holding-test c u e)
 
 returns-4 : tie.Need-returns-4
 unfolding toldMeans
@@ -134,7 +134,7 @@ yes-or-no-spec =
     declarations-of-requires
     is-state-requires
     returns-2
-    index-requires
+    wide-requires
     returns-3
     holds-in-requires
     returns-4

@@ -226,11 +226,11 @@ hypothesis-number c =
 wide-requires-2 : tie.Need-wide-requires-2 Inv-loop μ-loop
 wide-requires-2 c κs = search needs
 
-add-most : tie.Need-add-most Inv-loop μ-loop
-add-most c = omega (arith, c .wide2 .ensures .0, hypothesis-number (c .before))
+add-larger : tie.Need-add-larger Inv-loop μ-loop
+add-larger c = omega (arith, c .wide2 .ensures .0, hypothesis-number (c .before))
 
-most-requires : tie.Need-most-requires Inv-loop μ-loop
-most-requires c κs = search needs
+larger-requires : tie.Need-larger-requires Inv-loop μ-loop
+larger-requires c κs = search needs
 
 enum-known-found-3 : tie.Need-enum-known-found-3 Inv-loop μ-loop
 enum-known-found-3 c = search needs
@@ -310,7 +310,7 @@ loop-again-2 c =
     let g = c .before .before .before .found2 .given in
     again e (hypothesis (g .0 .0) (g .0 .1 .0) (g .0 .1 .1 .0)) (ap recordMeans (g .1)) refl _ _
     (tableOf-hypothesis (p .board) (l e .loop .t) (p .table) (g .0 .0) (g .0 .1 .0) (g .0 .1 .1 .0) (hypothesis-fits (c .before .before)))
-    (c .most .ensures ∙ ap₂ max (p .count) (ap (λ (x : ℕ). x + 1) (c .before .wide2 .ensures .0) ∙ add-one (g .0 .0)) ∙ sym (declarationsIn-snoc (p .board .hypotheses) _))
+    (c .larger .ensures ∙ ap₂ max (p .count) (ap (λ (x : ℕ). x + 1) (c .before .wide2 .ensures .0) ∙ add-one (g .0 .0)) ∙ sym (declarationsIn-snoc (p .board .hypotheses) _))
 
 loop-less-3 : tie.Need-loop-less-3 Inv-loop μ-loop
 loop-less-3 c = further (c .before .before .before .before .before)
@@ -355,8 +355,8 @@ load-spec =
     element-write-t-3
     add-t
     wide-requires-2
-    add-most
-    most-requires
+    add-larger
+    larger-requires
     enum-known-found-3
     element-write-t-4
     put-requires
