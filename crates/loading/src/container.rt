@@ -25,6 +25,24 @@ pub(crate) fn byte_at(s: &[u8], at: usize) -> u8 {
     0
 }
 
+// The number in two bytes, low byte first.
+pub(crate) fn two_bytes(s: &[u8], at: usize) -> usize
+    requires { ⌜ at ≤ length (now s) ⌝ }
+    ensures { λ r. ⌜ r < 65536 ⌝ }
+{
+    let next = past(s, at, 1);
+    wide(byte_at(s, at)) + 256 * wide(byte_at(s, next))
+}
+
+// The number in four bytes, low byte first.
+pub(crate) fn four_bytes(s: &[u8], at: usize) -> usize
+    requires { ⌜ at ≤ length (now s) ⌝ }
+    ensures { λ r. ⌜ r < 4294967296 ⌝ }
+{
+    let next = past(s, at, 2);
+    two_bytes(s, at) + 65536 * two_bytes(s, next)
+}
+
 // The place that is `n` bytes on, or the end.
 pub(crate) fn past(s: &[u8], at: usize, n: usize) -> usize
     requires { ⌜ at ≤ length (now s) ⌝ }
@@ -39,7 +57,7 @@ pub(crate) fn file_at(s: &[u8], at: usize) -> Part
     requires { ⌜ at < length (now s) ⌝ }
     ensures { λ r. ⌜ (at < r .start) × (r .start ≤ r .end) × (r .end ≤ length (now (s .entry))) ⌝ }
 {
-    let count = wide(byte_at(s, at)) + 256 * wide(byte_at(s, at + 1));
+    let count = two_bytes(s, at);
     let start = past(s, at, 2);
     let end = past(s, start, count);
     Part { start, end }
