@@ -13,7 +13,7 @@ use Rattle.board.specs.Board.{Board, declarations, isStateOf}
 use Rattle.board.specs.Holds.{holds, inState}
 use Rattle.board.specs.File as file
 use Rattle.board.specs.File.{Found, lowBytes}
-use Rattle.board.specs.Table.{boardOf, tableIn, zeroTable, isTable}
+use Rattle.board.specs.Table.{boardOf, tableIn, isTable}
 use Rattle.board.specs.declared.Table.{Table}
 use Rattle.board.specs.declared.record.Record.{Record}
 use Rattle.board.specs.declared.record.Record.the-variants.{Count, Hypothesis, Rule, End}
@@ -54,10 +54,9 @@ pub record LoadsAs (answer : FileAnswer Board) (r : Loading) : Type 0 where
   pub answers : loadedMeans (r .answer) ≡ outcomeOf answer
   pub table : r .table ≡ tableIn answer
 
--- the same of a refusal
-pub record Refuses (r : Loading) (number place : ℕ) : Type 0 where
-  pub answers : loadedMeans (r .answer) ≡ refusedAt number place
-  pub table : r .table ≡ zeroTable
+-- it hands back a refusal: "A refused load returns the table whose every field is zero."
+abbrev pub Refuses : Loading → ℕ → ℕ → Type 0
+Refuses r number place = LoadsAs (refusedAt number place) r
 
 -- ---- the yes-or-no
 

@@ -1,7 +1,8 @@
 -- What `board` means, in the order of document 01: read Sizes, Sets, Answers, Board, Holds, Accepted,
 -- File, Load, Table, EntryPoints, Facts.
--- `Lists` has the few functions on lists that these lean on.
+-- `Lists` has the few functions on lists that these lean on, and `Tests` the laws of tests, functions into Bool.
 pub mod Lists
+pub mod Tests
 pub mod Sizes
 pub mod Sets
 pub mod Answers

@@ -6,7 +6,6 @@ pub mod Flatten
 pub mod Laws
 pub mod Padding
 pub mod Places
-pub mod Tests
 use Prim.Native.Nat.{ℕ, zero, suc, _+_, _*_, _-_}
 use mathlib.Core.Bool.{Bool, true, false, _&&_, _||_, cond}
 use mathlib.Core.List.{List, [], _∷_, _++_}

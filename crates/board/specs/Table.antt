@@ -28,23 +28,33 @@ use Rattle.board.specs.declared.Table.{Table}
 
 -- ---- from a table to its board
 
-unfoldable pub hypothesisAt : Table → ℕ → Hypothesis
-hypothesisAt t i =
-    record {
-      declaration = getD (t .declaration) i 0;
-      atom = getD (t .atom) i 0;
-      weight = getD (t .weight) i 0;
-    }
+-- the hypothesis at place i of the arrays of declaration numbers, atoms and weights: "A hypothesis is an atom in exactly one declaration", with a weight
+abbrev pub hypothesisIn : List ℕ → List ℕ → List ℕ → ℕ → Hypothesis
+hypothesisIn declaration atom weight i = record { declaration = getD declaration i 0; atom = getD atom i 0; weight = getD weight i 0 }
 
-unfoldable pub ruleAt : Table → ℕ → Rule
-ruleAt t i = record { head = getD (t .head) i 0; body = filled (take mostBody (drop (mostBody * i) (t .body))) }
+-- the eight places of rule i, as many as the file has for "0 to 8 body atoms"
+abbrev pub placesIn : List ℕ → ℕ → List ℕ
+placesIn body i = take mostBody (drop (mostBody * i) body)
 
+-- the rule at place i: "a head and 0 to 8 body atoms", those of its places that are filled; "255 is an empty place"
+abbrev pub ruleIn : List ℕ → List ℕ → ℕ → Rule
+ruleIn head body i = record { head = getD head i 0; body = filled (placesIn body i) }
+
+-- the first n hypotheses: "The table keeps the records' order."
+unfoldable pub hypothesesIn : List ℕ → List ℕ → List ℕ → ℕ → List Hypothesis
+hypothesesIn declaration atom weight n = map (hypothesisIn declaration atom weight) (below n)
+
+-- the first n rules, in their order too
+unfoldable pub rulesIn : List ℕ → List ℕ → ℕ → List Rule
+rulesIn head body n = map (ruleIn head body) (below n)
+
+-- the board that a table holds
 unfoldable pub boardOf : Table → Board
 boardOf t =
     record {
       atoms = t .atoms;
-      hypotheses = map (hypothesisAt t) (below (t .hypotheses));
-      rules = map (ruleAt t) (below (t .rules));
+      hypotheses = hypothesesIn (t .declaration) (t .atom) (t .weight) (t .hypotheses);
+      rules = rulesIn (t .head) (t .body) (t .rules);
     }
 
 -- ---- from a board to its table

@@ -16,10 +16,9 @@ ghost use Rattle.board.specs.Lists.{all, below, zeroFrom};
 ghost use Rattle.board.specs.Sizes.{mostAtoms, mostRules, mostBody};
 ghost use Rattle.board.specs.Accepted.{within};
 ghost use Rattle.board.specs.Board.{declarationsIn};
-ghost use Rattle.board.specs.Table.{isTable};
+ghost use Rattle.board.specs.Table.{hypothesesIn, isTable};
 ghost use Rattle.board.specs.Table.Passes.{hypothesesPass};
 ghost use Rattle.board.specs.Table.Fields.{ruleStands, fieldsStand};
-ghost use Rattle.board.specs.Lent.{hypothesesIn};
 
 // The greatest weight: three bytes hold it.
 const MOST_WEIGHT: u32 = 16_777_215;

@@ -14,9 +14,9 @@ ghost use Prim.Native.Nat.{ℕ, _<_, _≤_};
 ghost use Rattle.board.specs.Sizes.{mostAtoms};
 ghost use Rattle.board.specs.Board.{declaration, declarations, declarationsIn, isAtomOf, isStateOf};
 ghost use Rattle.board.specs.EntryPoints.{toldMeans, yesOrNo};
-ghost use Rattle.board.specs.Lent.{hypothesesIn};
+ghost use Rattle.board.specs.Table.{ruleIn, hypothesesIn};
 ghost use Rattle.board.specs.Holds.{inState, ruleHolds};
-ghost use Rattle.board.specs.Holds.Remembered.{hypothesesAlone, ruleIn, lentHolds, SoundRules, Remembered};
+ghost use Rattle.board.specs.Holds.Remembered.{hypothesesAlone, lentHolds, SoundRules, Remembered};
 
 // Whether the state chooses the atom: at most some 5 d + 4 steps.
 pub(crate) fn in_state(state: &[u8], a: u8) -> bool

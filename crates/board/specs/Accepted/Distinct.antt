@@ -10,7 +10,7 @@ use borrow.Author.Tests.{ltb-true, ltb-false, eqb-true, eqb-false, not-true}
 use Rattle.board.specs.Lists.{any, all, keep, among}
 use Rattle.board.specs.Lists.Ends.{any-append}
 use Rattle.board.specs.Lists.Laws.{keep-none, keep-all, any-none, among-of}
-use Rattle.board.specs.Lists.Tests.{true-of-T, and-both, and-left, and-right, or-false-left, or-false-right, eqb-swap}
+use Rattle.board.specs.Tests.{true-of-T, and-both, and-left, and-right, or-false-left, or-false-right, eqb-swap}
 use Rattle.board.specs.Accepted.{distinct}
 
 -- one number more, that is not among them

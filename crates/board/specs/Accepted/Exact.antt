@@ -14,7 +14,7 @@ use borrow.Author.Tests.{eqb-false, le-ltb, lt-leb, eq-eqb, ne-eqb}
 use Rattle.board.specs.Lists.{any, all, keep, among, ascending}
 use Rattle.board.specs.Lists.Ends.{keep-append}
 use Rattle.board.specs.Lists.Laws.{all-of, none-at}
-use Rattle.board.specs.Lists.Tests.{T-ext, true-of-T, and-both, and-left, and-right}
+use Rattle.board.specs.Tests.{T-ext, true-of-T, and-both, and-left, and-right}
 use Rattle.board.specs.Lists.Places.{below-of}
 use Rattle.board.specs.Sizes.{mostAtoms, mostDeclarations, mostHypotheses, mostRules, mostBody, mostW, emptyPlace}
 use Rattle.board.specs.Answers.{accepted}

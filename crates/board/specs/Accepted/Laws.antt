@@ -11,7 +11,7 @@ use borrow.Author.Tests.{not-true, eq-eqb}
 use Rattle.board.specs.Lists.{all, sum, below, ascending}
 use Rattle.board.specs.Lists.Laws.{all-map, all-keep, all-at, none-at}
 use Rattle.board.specs.Lists.Places.{all-below}
-use Rattle.board.specs.Lists.Tests.{true-of-T, and-both, and-four, four-and, five-and, and-six, six-and, and-left, and-right}
+use Rattle.board.specs.Tests.{true-of-T, and-both, and-four, four-and, five-and, and-six, six-and, and-left, and-right}
 use Rattle.board.specs.Sizes.{mostAtoms, mostDeclarations, mostHypotheses, mostWeight, mostRules, mostBody, mostW}
 use Rattle.board.specs.Answers.{accepted}
 use Rattle.board.specs.Board.{Board, Hypothesis, Rule, declarationsIn, declaration, declarations, isAtomOf, isHypothesis, total, W}

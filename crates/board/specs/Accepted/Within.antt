@@ -1,7 +1,7 @@
 -- Laws of `within`, the test for a range: from lo to hi, both included. Assumes nothing.
 use Prim.Native.Nat.{ℕ, _≤_}
 use lib.Dec.{T, leb, leb→le, le→leb}
-use Rattle.board.specs.Lists.Tests.{and-both, and-left, and-right}
+use Rattle.board.specs.Tests.{and-both, and-left, and-right}
 use Rattle.board.specs.Accepted.{within}
 
 -- lo ≤ n ≤ hi is within

@@ -11,9 +11,7 @@ use Rattle.board.specs.declared.Loaded.the-variants.{Accepted}
 
 -- a refusal of the right number and place
 pub refuses-loads : (answer : FileAnswer Board) (r : Loading) (number place : ℕ) → answer ≡ refusedAt number place → Refuses r number place → LoadsAs answer r
-unfolding outcomeOf tableIn
-refuses-loads answer r number place e f =
-    record { answers = f .answers ∙ sym (ap outcomeOf e); table = f .table ∙ sym (ap tableIn e) }
+refuses-loads answer r number place e f = rw e f
 
 -- the table of the board that was accepted
 pub accepts-loads : (answer : FileAnswer Board) (b : Board) (t : Table) → answer ≡ accepted b → t ≡ tableOf b → LoadsAs answer (record { answer = Accepted; table = t })

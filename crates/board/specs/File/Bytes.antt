@@ -6,7 +6,7 @@ use lib.Dec.{T, ltb, lt→ltb, ltb→lt}
 use lib.ListN.{length, getD}
 use lib.Pow.{areBytes}
 use Rattle.board.specs.Lists.{all}
-use Rattle.board.specs.Lists.Tests.{and-both, and-left, and-right}
+use Rattle.board.specs.Tests.{and-both, and-left, and-right}
 use Rattle.board.specs.File.{threeBytes}
 
 -- every element of a list of bytes is below 256

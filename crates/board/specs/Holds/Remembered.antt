@@ -7,13 +7,12 @@ use mathlib.Core.Path.{_≡_}
 use mathlib.Core.Bool.{Bool, true, false}
 use mathlib.Core.List.{List, []}
 use Prim.Native.Nat.{ℕ, _*_, _≤_, _<_}
-use lib.ListN.{length, getD, take, drop}
+use lib.ListN.{length, getD}
 use Rattle.board.specs.Sizes.{mostAtoms, mostRules, mostBody}
 use Rattle.board.specs.Board.{Board, Rule, Hypothesis}
 use Rattle.board.specs.Holds.{holds, inState}
 use Rattle.board.specs.Holds.Laws.{BodiesBelow}
-use Rattle.board.specs.Load.{filled}
-use Rattle.board.specs.Lent.{rulesIn}
+use Rattle.board.specs.Table.{rulesIn}
 
 -- a board that has these rules and nothing else
 abbrev pub rulesAlone : List Rule → Board
@@ -22,10 +21,6 @@ rulesAlone rules = record { atoms = 0; hypotheses = []; rules = rules }
 -- a board that has these hypotheses and nothing else
 abbrev pub hypothesesAlone : List Hypothesis → Board
 hypothesesAlone hypotheses = record { atoms = 0; hypotheses = hypotheses; rules = [] }
-
--- rule number i of the rules that are lent
-abbrev pub ruleIn : List ℕ → List ℕ → ℕ → Rule
-ruleIn head body i = record { head = getD head i 0; body = filled (take mostBody (drop (mostBody * i) body)) }
 
 -- what holds in a state by the first n of the rules that are lent
 abbrev pub lentHolds : List ℕ → List ℕ → ℕ → List ℕ → ℕ → Bool

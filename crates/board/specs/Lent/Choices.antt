@@ -9,9 +9,9 @@ use lib.ListN.{getD}
 use Rattle.board.specs.Lists.{any, below}
 use Rattle.board.specs.Lists.Laws.{any-keep, any-map}
 use Rattle.board.specs.Lists.Places.{any-below, none-below}
-use Rattle.board.specs.Lists.Tests.{and-both, and-left, and-right}
+use Rattle.board.specs.Tests.{and-both, and-left, and-right}
 use Rattle.board.specs.Board.{Hypothesis, declaration, isAtomOf}
-use Rattle.board.specs.Lent.{hypothesesIn}
+use Rattle.board.specs.Table.{hypothesesIn}
 
 module _ (declared atom weights : List ℕ) (n d a : ℕ) where
   -- hypothesis i is of this declaration

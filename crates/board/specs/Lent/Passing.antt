@@ -8,14 +8,15 @@ use mathlib.Core.Bool.{Bool, false, _&&_}
 use mathlib.Core.List.{List, []}
 use lib.Dec.{T}
 use lib.ListN.{getD}
-use Rattle.board.specs.Lists.Tests.{and-both, and-left, and-right, false-of-T}
+use Rattle.board.specs.Tests.{and-both, and-left, and-right, false-of-T}
 use Rattle.board.specs.File.{hypothesis}
 use Rattle.board.specs.Load.{firstFailing, fieldChecks}
 use Rattle.board.specs.Load.Hypotheses.{hypothesisPasses-zero, hypothesisPasses-weight}
 use Rattle.board.specs.Load.Laws.{hypothesesPass-snoc, hypothesisPasses-of}
 use Rattle.board.specs.Table.Passes.{hypothesisPasses, hypothesesPass}
-use Rattle.board.specs.Lent.{hypothesesIn, boardIn}
-use Rattle.board.specs.Lent.Laws.{hypothesisIn, hypothesesIn-suc}
+use Rattle.board.specs.Lent.{boardIn}
+use Rattle.board.specs.Table.{hypothesisIn, hypothesesIn}
+use Rattle.board.specs.Lent.Laws.{hypothesesIn-suc}
 
 module _ (atoms : ℕ) (ds xs ws : List ℕ) where
   -- the first n pass

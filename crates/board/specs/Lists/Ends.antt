@@ -8,7 +8,7 @@ use mathlib.Core.Bool.{Bool, true, false, _&&_, _||_, cond, and-assoc, or-assoc,
 use mathlib.Core.List.{List, [], _∷_, _++_, map, map-append, append-nil}
 use lib.Dec.{T}
 use Rattle.board.specs.Lists.{any, all, keep, sum, product, numbersFrom, below}
-use Rattle.board.specs.Lists.Tests.{and-both}
+use Rattle.board.specs.Tests.{and-both}
 
 module _ {ℓ} {A : Type ℓ} where
   -- all of two lists in a row pass exactly if all of each do

@@ -9,7 +9,7 @@ use native.Mathlib.Omega.{arith}
 use lib.Dec.{T, eqb, eqb→eq, eqb-refl}
 use lib.ListN.{length}
 use Rattle.board.specs.Lists.{any, all, keep, isEmpty, among, sameNumbers}
-use Rattle.board.specs.Lists.Tests.{T-of-true, true-of-T, false-of-T, and-both, and-left, and-right, or-left, or-right, or-cases, or-false-left, or-false-right}
+use Rattle.board.specs.Tests.{T-of-true, true-of-T, false-of-T, and-both, and-left, and-right, or-left, or-right, or-cases, or-false-left, or-false-right}
 
 module _ {ℓ} {A : Type ℓ} where
   -- ---- every element passes

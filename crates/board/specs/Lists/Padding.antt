@@ -12,7 +12,7 @@ use lib.Seq.{length-take-le, take-append-seam, drop-append-add, drop-at, set-app
 use Rattle.board.specs.Lists.{all, keep, pad}
 use Rattle.board.specs.Lists.Ends.{all-append, keep-append}
 use Rattle.board.specs.Lists.Laws.{keep-all}
-use Rattle.board.specs.Lists.Tests.{and-both, and-left, and-right}
+use Rattle.board.specs.Tests.{and-both, and-left, and-right}
 
 module _ {ℓ} {A : Type ℓ} where
   -- ---- runs of one value
@@ -54,11 +54,6 @@ module _ {ℓ} {A : Type ℓ} where
   pub getD-pad : (n : ℕ) (a : A) (xs : List A) (i : ℕ) → getD (pad n a xs) i a ≡ getD xs i a
   unfolding pad
   getD-pad n a xs i = getD-append-replicate xs (n - length xs) i a
-
-  -- the list stands in front
-  pub take-pad : (n : ℕ) (a : A) (xs : List A) → take (length xs) (pad n a xs) ≡ xs
-  unfolding pad
-  take-pad n a xs = take-append-seam xs (replicate (n - length xs) a)
 
   -- every element of the list filled up passes if the list's and the filling do
   pub all-pad : (p : A → Bool) (n : ℕ) (a : A) (xs : List A) → T (p a) → T (all p xs) → T (all p (pad n a xs))

@@ -10,8 +10,8 @@ use lib.Dec.{T}
 use lib.ListN.{length, getD, take}
 use lib.Seq.{length-take-le, getD-take}
 use Rattle.board.specs.Lists.{any, all, numbersFrom, below}
-use Rattle.board.specs.Lists.Laws.{all-at, all-of, any-of, any-find, any-none}
-use Rattle.board.specs.Lists.Tests.{T-of-true, true-of-T, false-of-T}
+use Rattle.board.specs.Lists.Laws.{all-of, any-of, any-find, any-none}
+use Rattle.board.specs.Tests.{T-of-true, true-of-T}
 
 module _ {ℓ} {A : Type ℓ} where
   -- what stands at a place is an element
@@ -37,10 +37,6 @@ module _ {ℓ} {A : Type ℓ} where
     -- all pass, at every place
     pub all-everywhere : ((i : ℕ) → i < length xs → T (p (getD xs i d))) → all p xs ≡ true
     all-everywhere h = true-of-T (all p xs) (all-of p xs (λ x m. let (i, l, e) = place-of d m in rw e at (h i l)))
-
-    -- one fails, at a place
-    pub all-not-here : (i : ℕ) → i < length xs → (T (p (getD xs i d)) → ⊥) → all p xs ≡ false
-    all-not-here i l f = false-of-T (all p xs) (λ t. f (all-at p t (at-place xs i d l)))
 
 -- ---- the numbers below a bound
 

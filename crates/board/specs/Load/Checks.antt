@@ -10,7 +10,7 @@ use lib.Dec.{T, leb, ltb, eqb, lt→ltb}
 use borrow.Author.Tests.{ltb-false, leb-false, eqb-true, eqb-false, not-false}
 use Rattle.board.specs.Lists.{any, all, ascending}
 use Rattle.board.specs.Lists.Laws.{all-of, none-at}
-use Rattle.board.specs.Lists.Tests.{T-of-true, and-left, and-right, or-false-left, or-false-right}
+use Rattle.board.specs.Tests.{T-of-true, and-left, and-right, or-false-left, or-false-right}
 use Rattle.board.specs.Sizes.{mostAtoms, mostDeclarations, mostHypotheses, mostRules, mostW}
 use Rattle.board.specs.Board.{Board, declarationsIn, declaration, isHypothesis, W}
 use Rattle.board.specs.File.{count, hypothesis, rule, finish}

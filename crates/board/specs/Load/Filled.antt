@@ -12,7 +12,7 @@ use borrow.Author.Tests.{eqb-true, eqb-false, ne-eqb}
 use Rattle.board.specs.Lists.{all, keep, isEmpty, pad}
 use Rattle.board.specs.Lists.Laws.{all-mono, empty-nil}
 use Rattle.board.specs.Lists.Padding.{keep-pad}
-use Rattle.board.specs.Lists.Tests.{true-of-T, and-left, and-right}
+use Rattle.board.specs.Tests.{true-of-T, and-left, and-right}
 use Rattle.board.specs.Sizes.{emptyPlace}
 use Rattle.board.specs.Load.{filled, filledFirst}
 

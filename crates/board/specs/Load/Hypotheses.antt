@@ -10,7 +10,7 @@ use lib.Seq.{append-snoc}
 use lib.Dec.{T, ltb, lt→ltb, ltb→lt}
 use Rattle.board.specs.Lists.{all, keep}
 use Rattle.board.specs.Lists.Ends.{all-snoc}
-use Rattle.board.specs.Lists.Tests.{and-both, and-left, and-right}
+use Rattle.board.specs.Tests.{and-both, and-left, and-right}
 use Rattle.board.specs.Board.{Board, Hypothesis, declarationsIn, declaration, isHypothesis}
 use Rattle.board.specs.Board.Laws.{declarationsIn-snoc, declaration-snoc-same, declaration-snoc-other, isAtomOf-among}
 use Rattle.board.specs.File.{hypothesis}

@@ -9,7 +9,7 @@ use lib.Seq.{append-snoc}
 use lib.Dec.{T, leb, eqb, lt→ltb, le→leb, eqb→eq}
 use Rattle.board.specs.Lists.{isEmpty}
 use Rattle.board.specs.Lists.Laws.{keep-shorter, empty-nil}
-use Rattle.board.specs.Lists.Tests.{and-both, and-left, and-right}
+use Rattle.board.specs.Tests.{and-both, and-left, and-right}
 use Rattle.board.specs.Sizes.{mostBody, emptyPlace}
 use Rattle.board.specs.Board.{Board, Hypothesis, Rule, isHypothesis}
 use Rattle.board.specs.File.{Record, count, hypothesis, rule, finish}

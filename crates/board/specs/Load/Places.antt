@@ -9,7 +9,7 @@ use lib.Dec.{leb, eqb}
 use borrow.Author.Tests.{le-leb, lt-leb, ne-eqb}
 use Rattle.board.specs.Lists.{any, keep, isEmpty, ascending}
 use Rattle.board.specs.Lists.Ascending.{ascendingFrom, ascending-next, ascending-from-zero, isEmpty-ascending}
-use Rattle.board.specs.Lists.Tests.{and-swap}
+use Rattle.board.specs.Tests.{and-swap}
 use Rattle.board.specs.Sizes.{emptyPlace}
 use Rattle.board.specs.File.{lowBytes}
 use Rattle.board.specs.Load.{filled, filledFirst}

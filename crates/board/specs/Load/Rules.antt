@@ -9,7 +9,7 @@ use lib.Seq.{append-snoc}
 use lib.Dec.{T, ltb, leb, lt→ltb}
 use Rattle.board.specs.Lists.{all, ascending}
 use Rattle.board.specs.Lists.Ends.{all-snoc}
-use Rattle.board.specs.Lists.Tests.{and-five, and-left, and-right}
+use Rattle.board.specs.Tests.{and-five, and-left, and-right}
 use Rattle.board.specs.Sizes.{mostBody}
 use Rattle.board.specs.Board.{Board, Hypothesis, Rule, isHypothesis}
 use Rattle.board.specs.File.{rule}

@@ -11,7 +11,7 @@ use mathlib.Core.Logic.{⊎-elim}
 use lib.Pow.{pow-pos}
 use lib.Bits.{bitOr, bitAnd, or-add-and, and-le-r}
 use lib.Dec.{T, eqb→eq, ltb→lt}
-use Rattle.board.specs.Lists.Tests.{true-of-T}
+use Rattle.board.specs.Tests.{true-of-T}
 use Rattle.board.specs.Lists.Laws.{among-at}
 use Rattle.board.specs.Sets.{member, union, with, without, setOf, subset, allBelow}
 use Rattle.board.specs.Sets.Digits.{member-power, member-empty}

@@ -12,7 +12,7 @@ use lib.Pow.{pow-mono, shr-shr}
 use lib.Bits.{bitOr, or-shr, or-mod}
 use lib.Dec.{T, eqb, eqb→eq, ltb→lt, lt→ltb, eqb·zero-suc, eqb·suc-zero, eqb·suc-suc}
 use borrow.Author.Tests.{eqb-true}
-use Rattle.board.specs.Lists.Tests.{T-of-true, false-of-T}
+use Rattle.board.specs.Tests.{T-of-true, false-of-T}
 use Rattle.board.specs.Sets.{member, union, without, allBelow}
 
 -- ---- one digit at a time

@@ -6,7 +6,7 @@ use native.Mathlib.Omega.{arith}
 use mathlib.Core.Path.{_≡_, refl, sym, ap, _∙_, subst}
 use mathlib.Core.Bool.{Bool, true, false}
 use lib.Dec.{T}
-use Rattle.board.specs.Lists.Tests.{T-of-true, false-of-T}
+use Rattle.board.specs.Tests.{T-of-true, false-of-T}
 use Rattle.board.specs.Sizes.{mostAtoms}
 use Rattle.board.specs.Sets.{member, union, without, allBelow, highestBelow, highest}
 use Rattle.board.specs.Sets.Digits.{member-empty, set-ext, allBelow-at}

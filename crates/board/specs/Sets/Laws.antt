@@ -9,7 +9,7 @@ use mathlib.Core.Logic.{_⊎_, ⊎-elim}
 use lib.Dec.{T, eqb, eqb→eq}
 use borrow.Author.Tests.{eqb-true, eqb-false, eq-eqb, ne-eqb}
 use Rattle.board.specs.Lists.{any, among}
-use Rattle.board.specs.Lists.Tests.{T-of-true, true-of-T, T-ext, or-left, or-right, or-cases, and-left}
+use Rattle.board.specs.Tests.{T-of-true, true-of-T, T-ext, or-left, or-right, or-cases, and-left}
 use Rattle.board.specs.Sets.{member, union, with, without, setOf, subset}
 pub use Rattle.board.specs.Sets.Digits.{member-empty, member-union, member-single, member-without, set-ext}
 

@@ -10,7 +10,7 @@ use lib.Dec.{T, eqb, leb, leb→le, le→leb, eqb→eq}
 use lib.ListN.{length}
 use borrow.Author.Tests.{eqb-true, eqb-false, ne-eqb, not-true}
 use Rattle.board.specs.Lists.{any, keep, numbersFrom, below, among, ascending}
-use Rattle.board.specs.Lists.Tests.{T-of-true, true-of-T, T-ext, and-both, and-left, and-right}
+use Rattle.board.specs.Tests.{T-of-true, true-of-T, T-ext, and-both, and-left, and-right}
 use Rattle.board.specs.Lists.Laws.{any-find, keep-of, keep-at, keep-cong, among-of, among-at, keep-shorter, keep-none, any-none}
 use Rattle.board.specs.Lists.Places.{place-of, length-below, getD-below, below-of, any-below}
 use Rattle.board.specs.Lists.Ascending.{ascendingFrom, ascending-next, ascending-from-zero}

@@ -1,23 +1,23 @@
 -- The arrays of a board's table give the board back, and two tables that are the same field by field are equal. Assumes nothing.
 use mathlib.Core.Path.{_≡_, refl, sym, ap, _∙_}
-use Prim.Native.Nat.{ℕ, _*_, _≤_, _<_}
+use Prim.Native.Nat.{ℕ, _≤_, _<_}
 use mathlib.Core.Bool.{Bool, true, _&&_}
 use mathlib.Core.List.{List, [], map}
 use lib.Dec.{T, eqb, eqb→eq, eqb-refl}
-use lib.ListN.{length, getD, take, drop, List·getD-map}
-use Rattle.board.specs.Lists.{pad, below, sameNumbers}
+use lib.ListN.{length, getD, List·getD-map}
+use Rattle.board.specs.Lists.{pad, sameNumbers}
 use Rattle.board.specs.Lists.Flatten.{take-drop-flatten}
 use Rattle.board.specs.Lists.Laws.{sameNumbers-refl, sameNumbers→eq}
 use Rattle.board.specs.Lists.Padding.{getD-pad}
 use Rattle.board.specs.Lists.Places.{map-below-by-place}
-use Rattle.board.specs.Lists.Tests.{and-left, and-right, true-of-T}
+use Rattle.board.specs.Tests.{and-left, and-right, true-of-T}
 use Rattle.board.specs.Sizes.{mostAtoms, mostRules, mostBody}
 use Rattle.board.specs.Board.{Board, Hypothesis, Rule}
 use Rattle.board.specs.Load.{noBoard, filled}
 use Rattle.board.specs.Load.Checks.{count-room}
 use Rattle.board.specs.Load.Laws.{soFar-atoms, soFar-rules, boardPasses-soFar}
-use Rattle.board.specs.Lent.{hypothesesIn, boardIn}
-use Rattle.board.specs.Table.{hypothesisAt, ruleAt, boardOf, placesOf, tableOf, sameTable}
+use Rattle.board.specs.Lent.{boardIn}
+use Rattle.board.specs.Table.{placesIn, ruleIn, hypothesesIn, rulesIn, boardOf, placesOf, tableOf, sameTable}
 use Rattle.board.specs.Table.Bounds.{RuleBounds, rules-bounds}
 use Rattle.board.specs.Table.Passes.{soFar, boardPasses}
 use Rattle.board.specs.Table.Places.{length-placesOf, filled-placesOf}
@@ -62,25 +62,25 @@ boardIn-tableOf b t e =
 
 -- the rules in the table of a board
 rules-back : (b : Board) → b .atoms ≤ 128 → ((i : ℕ) → i < length (b .rules) → RuleBounds (b .atoms) (getD (b .rules) i noRule))
-    → map (ruleAt (tableOf b)) (below (length (b .rules))) ≡ b .rules
-unfolding ruleAt tableOf pad
-rules-back b h bounds = map-below-by-place (ruleAt (tableOf b)) noRule (b .rules) at-index
+    → rulesIn (tableOf b .head) (tableOf b .body) (length (b .rules)) ≡ b .rules
+unfolding rulesIn tableOf pad
+rules-back b h bounds = map-below-by-place (ruleIn (tableOf b .head) (tableOf b .body)) noRule (b .rules) at-index
   where
-    at-index : (i : ℕ) → i < length (b .rules) → ruleAt (tableOf b) i ≡ getD (b .rules) i noRule
+    at-index : (i : ℕ) → i < length (b .rules) → ruleIn (tableOf b .head) (tableOf b .body) i ≡ getD (b .rules) i noRule
     at-index i l =
         let k : getD (tableOf b .head) i 0 ≡ getD (b .rules) i noRule .head = field-at (λ (r : Rule). r .head) noRule refl mostRules (b .rules) i in
-        let s : take mostBody (drop (mostBody * i) (tableOf b .body)) ≡ placesOf (getD (b .rules) i noRule) =
+        let s : placesIn (tableOf b .body) i ≡ placesOf (getD (b .rules) i noRule) =
         take-drop-flatten mostBody placesOf noRule (b .rules) _ (λ j m. length-placesOf (getD (b .rules) j noRule) (bounds j m .size)) i l in
-        let p : filled (take mostBody (drop (mostBody * i) (tableOf b .body))) ≡ getD (b .rules) i noRule .body =
+        let p : filled (placesIn (tableOf b .body) i) ≡ getD (b .rules) i noRule .body =
         ap filled s ∙ filled-placesOf (b .atoms) h (getD (b .rules) i noRule) (bounds i l .body) in
         λ j. record { head = k j; body = p j }
 
 -- the table of a board that passes has that board
 pub boardOf-tableOf : (b : Board) → T (boardPasses b) → boardOf (tableOf b) ≡ b
-unfolding boardOf hypothesisAt hypothesesIn tableOf
+unfolding boardOf tableOf
 boardOf-tableOf b t =
     let s : T (soFar b) = boardPasses-soFar b t in
-    let r : map (ruleAt (tableOf b)) (below (length (b .rules))) ≡ b .rules =
+    let r =
     rules-back b (count-room noBoard (b .atoms) (soFar-atoms b s))
     (λ i l. rules-bounds (b .atoms) (b .hypotheses) [] (b .rules) (soFar-rules b s) i noRule l) in
     λ j. record { atoms = b .atoms; hypotheses = hypothesesIn-tableOf b (tableOf b) refl j; rules = r j }

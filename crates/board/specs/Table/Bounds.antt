@@ -5,7 +5,7 @@ use mathlib.Core.List.{List, [], _∷_, _++_}
 use lib.Dec.{T, ltb, leb→le}
 use lib.ListN.{length, getD}
 use Rattle.board.specs.Lists.{all}
-use Rattle.board.specs.Lists.Tests.{and-left, and-right}
+use Rattle.board.specs.Tests.{and-left, and-right}
 use Rattle.board.specs.Board.{Hypothesis, Rule}
 use Rattle.board.specs.Load.Checks.{hypothesis-atom, hypothesis-declaration, rule-head}
 use Rattle.board.specs.Load.Hypotheses.{hypothesisPasses-zero, hypothesisPasses-weight}

@@ -17,10 +17,10 @@ use Rattle.board.specs.Load.Hypotheses.{hypotheses-declarations, hypothe
 use Rattle.board.specs.Load.Laws.{soFar-hypotheses, soFar-rules}
 use Rattle.board.specs.Load.Loaded.{Begun}
 use Rattle.board.specs.Load.Room.{hypotheses-length, soFar-room}
-use Rattle.board.specs.Table.{tableOf}
+use Rattle.board.specs.Table.{hypothesesIn, tableOf}
 use Rattle.board.specs.Table.Arrays.{hypothesesIn-tableOf}
 use Rattle.board.specs.Table.Passes.{hypothesesPass, rulesPass}
-use Rattle.board.specs.Lent.{hypothesesIn, Declared}
+use Rattle.board.specs.Lent.{Declared}
 use Rattle.board.specs.Lent.Laws.{declarationsIn-lent, total-lent}
 use Rattle.board.specs.declared.Table.{Table}
 

@@ -9,15 +9,14 @@ use mathlib.Core.Path.{_≡_}
 use mathlib.Core.Bool.{Bool, _&&_}
 use mathlib.Core.List.{List, []}
 use lib.Dec.{leb}
-use lib.ListN.{length, getD, take, drop}
+use lib.ListN.{length, getD}
 use Rattle.board.specs.Lists.{all, below, zeroFrom}
 use Rattle.board.specs.Sizes.{mostAtoms, mostRules, mostBody, mostW}
 use Rattle.board.specs.Board.{Hypothesis, W}
 use Rattle.board.specs.Accepted.{within}
 use Rattle.board.specs.File.{rule}
-use Rattle.board.specs.Table.{boardOf}
+use Rattle.board.specs.Table.{placesIn, hypothesesIn, rulesIn, boardOf}
 use Rattle.board.specs.Table.Passes.{recordPasses, hypothesesPass}
-use Rattle.board.specs.Lent.{hypothesesIn, rulesIn}
 use Rattle.board.specs.declared.Table.{Table}
 
 -- the arrays have the lengths that the code declares
@@ -32,7 +31,7 @@ pub record Sized (t : Table) : Type 0 where
 unfoldable pub ruleStands : ℕ → List Hypothesis → List ℕ → List ℕ → ℕ → Bool
 ruleStands atoms hypotheses head body j =
     recordPasses (record { atoms = atoms; hypotheses = hypotheses; rules = rulesIn head body j })
-    (rule (getD head j 0) (take mostBody (drop (mostBody * j) body)))
+    (rule (getD head j 0) (placesIn body j))
 
 unfoldable pub sizesStand : Table → Bool
 sizesStand t = within 1 mostAtoms (t .atoms) && leb (t .hypotheses) mostAtoms && leb (t .rules) mostRules

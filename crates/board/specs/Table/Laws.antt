@@ -3,23 +3,25 @@
 use mathlib.Core.Path.{_≡_, refl, sym, ap, _∙_}
 use Prim.Native.Nat.{ℕ, _/_, _%_, _≤_, _<_}
 use native.Mathlib.Omega.{arith}
-use mathlib.Core.Bool.{Bool, _&&_}
+use mathlib.Core.Bool.{Bool, false, _&&_}
+use mathlib.Core.Logic.{_↔_}
 use mathlib.Core.List.{List, [], _∷_, _++_, map, flatten}
 use lib.Dec.{T, ltb, ltb→lt, lt→ltb}
 use lib.Pow.{areBytes}
 use borrow.Author.Tests.{lt-ltb}
 use Rattle.board.specs.Lists.Laws.{all-mono}
 use Rattle.board.specs.Lists.Padding.{all-pad}
-use Rattle.board.specs.Lists.Tests.{and-both, and-left, and-right, T-ext}
+use Rattle.board.specs.Tests.{and-both, and-left, and-right, false-of-T, T-ext}
 use Rattle.board.specs.Sizes.{mostBody, emptyPlace}
 use Rattle.board.specs.Answers.{FileAnswer, accepted, refusedAt}
 use Rattle.board.specs.Board.{Board, Hypothesis, Rule}
 use Rattle.board.specs.File.{lowBytes}
 use Rattle.board.specs.File.Bytes.{areBytes-append, areBytes-all, areBytes-flatten}
 use Rattle.board.specs.Load.{noBoard, load}
-use Rattle.board.specs.Load.Checks.{count-room}
+use Rattle.board.specs.Load.Checks.{count-positive, count-room}
 use Rattle.board.specs.Load.Laws.{soFar-atoms, soFar-hypotheses, soFar-rules, boardPasses-soFar}
-use Rattle.board.specs.Table.{boardOf, tableOf, placesOf, Loads, hypothesisBytes, ruleBytes, fileOf, sameTable, loadsTo, isTable}
+use Rattle.board.specs.Load.Loaded.{loaded-passes}
+use Rattle.board.specs.Table.{boardOf, tableOf, placesOf, zeroTable, Loads, hypothesisBytes, ruleBytes, fileOf, sameTable, loadsTo, isTable}
 use Rattle.board.specs.Table.Arrays.{noHypothesis, noRule, boardOf-tableOf, sameTable-refl, sameTable→eq}
 use Rattle.board.specs.Table.Bounds.{HypothesisBounds, RuleBounds, hypotheses-bounds, rules-bounds}
 use Rattle.board.specs.Table.Passes.{soFar, boardPasses}
@@ -91,24 +93,35 @@ passes-isTable b t p e =
     rw (e, boardOf-tableOf b p, load-written b p)
     (and-both (areBytes (fileOf b)) (sameTable (tableOf b) (tableOf b)) (written-bytes b p) (sameTable-refl (tableOf b)))
 
-module _ (loaded-passes : (file : List ℕ) → T (areBytes file) → (b : Board) → load file ≡ accepted b → T (boardPasses b)) where
-  -- the test passes every table that some file loads to
-  pub Loads→isTable : (t : Table) → Loads t → T (isTable t)
-  Loads→isTable t l = passes-isTable (l .board) t (loaded-passes (l .file) (l .bytes) (l .board) (l .loaded)) (l .stored)
+-- the test passes every table that some file loads to
+pub Loads→isTable : (t : Table) → Loads t → T (isTable t)
+Loads→isTable t l = passes-isTable (l .board) t (loaded-passes (l .file) (l .bytes) (l .board) (l .loaded)) (l .stored)
 
-  -- the test, read off the table's fields
-  pub isTable-by-fields : (t : Table) → isTable t ≡ (boardPasses (boardOf t) && sameTable (tableOf (boardOf t)) t)
-  isTable-by-fields t = T-ext (isTable t) (boardPasses (boardOf t) && sameTable (tableOf (boardOf t)) t) there back
-    where
-      there : T (isTable t) → T (boardPasses (boardOf t) && sameTable (tableOf (boardOf t)) t)
-      there s =
-          let l : Loads t = isTable→Loads t s in
-          let p : T (boardPasses (l .board)) = loaded-passes (l .file) (l .bytes) (l .board) (l .loaded) in
-          let e : boardOf t ≡ l .board = ap boardOf (l .stored) ∙ boardOf-tableOf (l .board) p in
-          rw (e, ← l .stored) (and-both (boardPasses (l .board)) (sameTable t t) p (sameTable-refl t))
+-- the test passes exactly the tables that some file loads to: refusal 20 is for "a table handed in that no file loads to"
+pub isTable-iff : (t : Table) → T (isTable t) ↔ Loads t
+isTable-iff t = (isTable→Loads t, Loads→isTable t)
 
-      back : T (boardPasses (boardOf t) && sameTable (tableOf (boardOf t)) t) → T (isTable t)
-      back s =
-          let p : Bool = boardPasses (boardOf t) in
-          let q : Bool = sameTable (tableOf (boardOf t)) t in
-          passes-isTable (boardOf t) t (and-left p q s) (sym (sameTable→eq (tableOf (boardOf t)) t (and-right p q s)))
+-- the test, read off the table's fields
+pub isTable-by-fields : (t : Table) → isTable t ≡ (boardPasses (boardOf t) && sameTable (tableOf (boardOf t)) t)
+isTable-by-fields t = T-ext (isTable t) (boardPasses (boardOf t) && sameTable (tableOf (boardOf t)) t) there back
+  where
+    there : T (isTable t) → T (boardPasses (boardOf t) && sameTable (tableOf (boardOf t)) t)
+    there s =
+        let l : Loads t = isTable→Loads t s in
+        let p : T (boardPasses (l .board)) = loaded-passes (l .file) (l .bytes) (l .board) (l .loaded) in
+        let e : boardOf t ≡ l .board = ap boardOf (l .stored) ∙ boardOf-tableOf (l .board) p in
+        rw (e, ← l .stored) (and-both (boardPasses (l .board)) (sameTable t t) p (sameTable-refl t))
+
+    back : T (boardPasses (boardOf t) && sameTable (tableOf (boardOf t)) t) → T (isTable t)
+    back s =
+        let p : Bool = boardPasses (boardOf t) in
+        let q : Bool = sameTable (tableOf (boardOf t)) t in
+        passes-isTable (boardOf t) t (and-left p q s) (sym (sameTable→eq (tableOf (boardOf t)) t (and-right p q s)))
+
+-- no file loads to "the table whose every field is zero", which a refused load returns: "A table has 1 to 128 atoms"
+pub zero-no-table : isTable zeroTable ≡ false
+unfolding boardOf zeroTable
+zero-no-table = false-of-T (isTable zeroTable) (λ s.
+    let b : Board = boardOf zeroTable in
+    let p : T (boardPasses b) = and-left (boardPasses b) (sameTable (tableOf b) zeroTable) (rw (isTable-by-fields zeroTable) at s) in
+    omega (arith, count-positive noBoard (b .atoms) (soFar-atoms b (boardPasses-soFar b p))))

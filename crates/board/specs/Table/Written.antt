@@ -11,7 +11,7 @@ use lib.Seq.{getD-append-seam, getD-append-add, drop-append-add, take-at, append
 use borrow.Author.Tests.{le-ltb, ne-eqb}
 use Rattle.board.specs.Lists.{isEmpty}
 use Rattle.board.specs.Lists.Flatten.{length-le-flatten}
-use Rattle.board.specs.Lists.Tests.{and-left, and-right}
+use Rattle.board.specs.Tests.{and-left, and-right}
 use Rattle.board.specs.Answers.{accepted}
 use Rattle.board.specs.Board.{Board, Hypothesis, Rule}
 use Rattle.board.specs.File.{count, hypothesis, rule, finish, bodyBytes, threeBytes, lowBytes, recordOf, nextPlace, readRecord}

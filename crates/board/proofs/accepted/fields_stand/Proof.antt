@@ -1,6 +1,6 @@
 -- `fields_stand` meets its contract: its tests, in their order, are the parts of `fieldsStand`. Assumes nothing.
 use native.Mathlib.Omega.{arith}
-use mathlib.Core.Path.{_≡_, sym, ap, _∙_}
+use mathlib.Core.Path.{_≡_, sym, _∙_}
 use mathlib.Core.Bool.{Bool, true, false}
 use mathlib.Core.List.{[]}
 use Prim.Native.Nat.{ℕ, _≤_}
@@ -8,15 +8,14 @@ use lib.Dec.{T, ltb}
 use denote.Ref.{now}
 use borrow.Author.Tests.{not-true, not-false, ltb-true, ltb-false, le-leb, lt-leb}
 use Rattle.board.specs.Lists.{all, below}
-use Rattle.board.specs.Lists.Tests.{T-of-true}
+use Rattle.board.specs.Tests.{T-of-true}
 use Rattle.board.specs.Sizes.{mostW}
-use Rattle.board.specs.Board.{Board, W}
-use Rattle.board.specs.Table.{boardOf}
+use Rattle.board.specs.Board.{W}
+use Rattle.board.specs.Table.{hypothesesIn, rulesIn, boardOf}
 use Rattle.board.specs.Table.Declared.{declared-passing}
 use Rattle.board.specs.Table.Fields.{ruleStands, sizesStand, roomStands, fieldsStand}
 use Rattle.board.specs.Table.Fields.Parts.{sizes-parts}
 use Rattle.board.specs.Table.Passes.{hypothesesPass}
-use Rattle.board.specs.Lent.{hypothesesIn, rulesIn, boardOf-lent}
 use Rattle.board.specs.declared.Table.{Table}
 use Rattle.board.proofs.accepted.fields_stand.Statement.{statement}
 use Rattle.board.proofs.accepted.fields_stand.Tie as tie
@@ -94,9 +93,10 @@ product-passes-requires c κs =
 -- W, as the product's test sees it
 W-test : (c : tie.After-product-passes) (u : Bool) → c .product-passes .result ≡ u
     → ltb mostW (W (boardOf (table (c .before .before .before .before .before .before .before .before)))) ≡ u
+unfolding boardOf
 W-test c u e =
     let t = table (c .before .before .before .before .before .before .before .before) in
-    ap (λ (b : Board). ltb mostW (W b)) (boardOf-lent t) ∙ sym (c .product-passes .ensures (t .atoms) (t .atom) (rulesIn (t .head) (t .body) (t .rules))) ∙ e
+    sym (c .product-passes .ensures (t .atoms) (t .atom) (rulesIn (t .head) (t .body) (t .rules))) ∙ e
 
 returns-4 : tie.Need-returns-4
 unfolding fieldsStand

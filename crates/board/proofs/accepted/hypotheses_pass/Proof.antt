@@ -8,10 +8,10 @@ use lib.Dec.{T}
 use lib.ListN.{getD}
 use denote.Ref.{now}
 use Rattle.board.specs.Lists.{below, numbersFrom}
-use Rattle.board.specs.Lists.Tests.{true-of-T}
+use Rattle.board.specs.Tests.{true-of-T}
 use Rattle.board.specs.Board.{declarationsIn}
 use Rattle.board.specs.Table.Passes.{hypothesesPass}
-use Rattle.board.specs.Lent.{hypothesesIn}
+use Rattle.board.specs.Table.{hypothesesIn}
 use Rattle.board.specs.Lent.Laws.{declarationsIn-more}
 use Rattle.board.specs.Lent.Passing.{firstPass, firstPass-more, firstPass-fails, nextPasses-of, nextPasses-weight, nextPasses-check}
 use Rattle.board.proofs.accepted.hypotheses_pass.Statement.{statement}

@@ -9,12 +9,13 @@ use lib.ListN.{getD, take, drop}
 use denote.Ref.{now}
 use Rattle.board.specs.Lists.Laws.{all-at}
 use Rattle.board.specs.Lists.Places.{below-of, all-below}
-use Rattle.board.specs.Lists.Tests.{true-of-T, false-of-T}
+use Rattle.board.specs.Tests.{true-of-T, false-of-T}
 use Rattle.board.specs.File.{rule}
 use Rattle.board.specs.Load.{firstFailing, fieldChecks}
 use Rattle.board.specs.Load.Laws.{recordPasses-zero, zero-recordPasses}
 use Rattle.board.specs.Table.Fields.{ruleStands}
-use Rattle.board.specs.Lent.{hypothesesIn, boardIn, rulesIn}
+use Rattle.board.specs.Table.{hypothesesIn, rulesIn}
+use Rattle.board.specs.Lent.{boardIn}
 use Rattle.board.specs.Lent.Laws.{length-rulesIn}
 use Rattle.board.proofs.accepted.rules_pass.Statement.{statement}
 use Rattle.board.proofs.accepted.rules_pass.Tie as tie

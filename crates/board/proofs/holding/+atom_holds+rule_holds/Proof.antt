@@ -13,7 +13,8 @@ use borrow.Author.Count.{below-none, below-more}
 use borrow.Fn.Kinds.{In}
 use borrow.Fn.PlainCycle.{Measures, is, falls, and}
 use Rattle.board.specs.Holds.{ruleHolds}
-use Rattle.board.specs.Holds.Remembered.{ruleIn, lentHolds, Remembered}
+use Rattle.board.specs.Table.{ruleIn}
+use Rattle.board.specs.Holds.Remembered.{lentHolds, Remembered}
 use Rattle.board.specs.Holds.Remembered.Laws.{told-yes, told-no, rule-everywhere, rule-not-here, lent-chosen, lent-rule, lent-none, lent-room, lent-low}
 use Rattle.board.proofs.holding.atom_holds.Reads as atom
 use Rattle.board.proofs.holding.atom_holds.Kinds as atom-kinds

@@ -1,22 +1,19 @@
 -- `yes_or_no` meets its contract: its tests, in their order, are those of `yesOrNo`, and the holding test is asked of a sound table. Assumes nothing.
 use native.Mathlib.Omega.{arith}
-use mathlib.Core.Path.{_≡_, sym, ap, _∙_}
+use mathlib.Core.Path.{_≡_, sym, _∙_}
 use mathlib.Core.Bool.{Bool, true, false}
 use Prim.Native.Nat.{_≤_}
 use denote.Ref.{now}
 use borrow.Author.Tests.{not-true, not-false, le-leb, lt-leb}
-use Rattle.board.specs.Lists.Tests.{T-of-true}
+use Rattle.board.specs.Tests.{T-of-true}
 use Rattle.board.specs.Answers.{granted}
-use Rattle.board.specs.Board.{Board, declarations, isStateOf}
+use Rattle.board.specs.Board.{declarations, isStateOf}
 use Rattle.board.specs.Holds.{holds, inState}
-use Rattle.board.specs.Holds.Remembered.{rulesAlone}
-use Rattle.board.specs.Holds.Remembered.Laws.{holds-rules, declarations-hypotheses}
 use Rattle.board.specs.Holds.Remembered.Tables.{table-sound}
 use Rattle.board.specs.Table.{boardOf, isTable}
 use Rattle.board.specs.Table.Fields.{Sized}
 use Rattle.board.specs.Table.Fields.Laws.{isTable-fields, isTable-stands}
 use Rattle.board.specs.Table.Fields.Parts.{sizes-parts}
-use Rattle.board.specs.Lent.{hypothesesIn, boardOf-lent}
 use Rattle.board.specs.EntryPoints.{toldMeans, yesOrNo}
 use borrow.Author.Needs.{needs}
 use Rattle.board.proofs.holding.yes_or_no.Statement.{statement}
@@ -68,11 +65,8 @@ first c = c .before .before .before .before .before .before .before
 -- the state's test, said of the board
 state-test : (c : tie.After-is-state) (u : Bool) → c .is-state .result ≡ u → let a = start (first c .before) .args in
     isStateOf (declarations (boardOf (a .t1))) (now (a .state)) ≡ u
-state-test c u e =
-    let a = start (first c .before) .args in
-    let same : boardOf (a .t1) .hypotheses ≡ hypothesesIn (a .t1 .declaration) (a .t1 .atom) (a .t1 .weight) (a .t1 .hypotheses) =
-    ap (λ (b : Board). b .hypotheses) (boardOf-lent (a .t1)) in
-    rw (declarations-hypotheses (boardOf (a .t1)), same) (sym (c .is-state .ensures (a .t1 .weight)) ∙ e)
+unfolding boardOf declarations
+state-test c u e = sym (c .is-state .ensures (start (first c .before) .args .t1 .weight)) ∙ e
 
 returns-2 : tie.Need-returns-2
 unfolding toldMeans yesOrNo
@@ -99,11 +93,8 @@ holds-in-requires c κs =
 holding-test : (c : tie.After-holds-in) (u : Bool) → c .holds-in .result ≡ u
     → let a = start (first (c .before .before .before .before .before .before .before) .before) .args in
     holds (inState (now (a .state))) (boardOf (a .t1)) (a .atom) ≡ u
-holding-test c u e =
-    let a = start (first (c .before .before .before .before .before .before .before) .before) .args in
-    holds-rules (inState (now (a .state))) (boardOf (a .t1)) (a .atom)
-    ∙ ap (λ (b : Board). holds (inState (now (a .state))) (rulesAlone (b .rules)) (a .atom)) (boardOf-lent (a .t1))
-    ∙ sym (c .holds-in .ensures) ∙ e
+unfolding boardOf holds
+holding-test c u e = sym (c .holds-in .ensures) ∙ e
 
 -- the three refusals are past, and the answer is the holding test's
 past : (c : tie.After-holds-in) (u : Bool) → c .holds-in .result ≡ u

@@ -1,7 +1,8 @@
 -- `refused` meets its contract: the answer it makes, and the zero table. Assumes nothing.
 use borrow.Author.Needs.{needs}
 use mathlib.Core.Path.{refl}
-use Rattle.board.specs.EntryPoints.{loadedMeans}
+use Rattle.board.specs.Table.{tableIn}
+use Rattle.board.specs.EntryPoints.{outcomeOf, loadedMeans}
 use Rattle.board.proofs.load.refused.Statement.{statement}
 use Rattle.board.proofs.load.refused.Tie as tie
 
@@ -9,7 +10,7 @@ zero-table-requires : tie.Need-zero-table-requires
 zero-table-requires c κs = search needs
 
 returns : tie.Need-returns
-unfolding loadedMeans
+unfolding loadedMeans outcomeOf tableIn
 returns c = record { answers = refl; table = c .zero-table .ensures }
 
 pub refused-spec : {M : Type 1} → statement M

@@ -2,24 +2,23 @@
 use Prim.Native.Nat.{ℕ, _+_, _*_, _≤_, _<_}
 use native.Mathlib.Omega.{arith}
 use native.Mathlib.Decide.{decLt, ℕ-discrete}
-use mathlib.Core.Path.{_≡_, refl, sym, ap, _∙_}
+use mathlib.Core.Path.{_≡_, sym, ap, _∙_}
 use mathlib.Core.Bool.{Bool, true, false, _||_, or-true}
 use mathlib.Core.List.{List, List·Memᴰ}
 use lib.Dec.{T-not, not-T, eqb, eqb→eq, eqb-refl}
-use lib.ListN.{length, getD, take, drop, set, replicate, length-take, length-drop, length-replicate, getD-replicate, List·getD-eq-default}
+use lib.ListN.{length, getD, drop, set, replicate, length-take, length-drop, length-replicate, getD-replicate, List·getD-eq-default}
 use lib.Seq.{getD-take, getD-drop, getD-set-same, getD-set-other, set-out}
 use Rattle.board.specs.Lists.{any, below}
 use Rattle.board.specs.Lists.Laws.{all-at, all-of, any-map, keep-of, keep-at}
 use Rattle.board.specs.Lists.Places.{at-place, place-of, any-below, none-below}
-use Rattle.board.specs.Lists.Tests.{T-of-true, true-of-T, false-of-T, and-both, and-left, and-right}
+use Rattle.board.specs.Tests.{T-of-true, true-of-T, false-of-T, and-both, and-left, and-right}
 use Rattle.board.specs.Sizes.{mostBody, emptyPlace}
-use Rattle.board.specs.Board.{Board, declarations}
 use Rattle.board.specs.Load.{filled}
-use Rattle.board.specs.Lent.{rulesIn}
+use Rattle.board.specs.Table.{placesIn, ruleIn, rulesIn}
 use Rattle.board.specs.Lent.Laws.{rulesIn-of}
-use Rattle.board.specs.Holds.{ruleHolds, holds, inState}
+use Rattle.board.specs.Holds.{ruleHolds, inState}
 use Rattle.board.specs.Holds.Laws.{ruleGives, holds-step}
-use Rattle.board.specs.Holds.Remembered.{rulesAlone, hypothesesAlone, ruleIn, lentHolds, SoundRules, RightMark, Remembered}
+use Rattle.board.specs.Holds.Remembered.{rulesAlone, lentHolds, SoundRules, RightMark, Remembered}
 
 -- ---- the answers found so far
 
@@ -58,15 +57,15 @@ module _ (head body : List ℕ) (i : ℕ) where
       → List·Memᴰ (getD body (mostBody * i + k) 0) (ruleIn head body i .body)
   unfolding filled
   filled-here room k l f =
-      let size : length (take mostBody (drop (mostBody * i) body)) ≡ mostBody = simp (length-take, length-drop) (omega arith) in
-      let here : getD (take mostBody (drop (mostBody * i) body)) k 0 ≡ getD body (mostBody * i + k) 0 = rw (getD-take, getD-drop) in
-      keep-of _ (rw here at (at-place (take mostBody (drop (mostBody * i) body)) k 0 (omega arith))) (not-T (eqb (getD body (mostBody * i + k) 0) emptyPlace) (λ t. f (eqb→eq _ emptyPlace t)))
+      let size : length (placesIn body i) ≡ mostBody = simp (length-take, length-drop) (omega arith) in
+      let here : getD (placesIn body i) k 0 ≡ getD body (mostBody * i + k) 0 = rw (getD-take, getD-drop) in
+      keep-of _ (rw here at (at-place (placesIn body i) k 0 (omega arith))) (not-T (eqb (getD body (mostBody * i + k) 0) emptyPlace) (λ t. f (eqb→eq _ emptyPlace t)))
 
   -- a body atom stands at a filled place
   pub filled-at : {x : ℕ} → List·Memᴰ x (ruleIn head body i .body) → (k : ℕ) × (k < mostBody) × (getD body (mostBody * i + k) 0 ≡ x) × (x ≡ emptyPlace → ⊥)
   unfolding filled
   filled-at {x} m =
-      let places = take mostBody (drop (mostBody * i) body) in
+      let places = placesIn body i in
       let (mem, full) = keep-at _ places m in
       let (k, l, e) = place-of 0 mem in
       let short : k < mostBody = omega (arith, length-take mostBody (drop (mostBody * i) body)) in
@@ -125,15 +124,3 @@ module _ (head body : List ℕ) (n : ℕ) (sound : SoundRules head body n) (i : 
   pub lent-low : (k : ℕ) → k < mostBody → (getD body (mostBody * i + k) 0 ≡ emptyPlace → ⊥) → getD body (mostBody * i + k) 0 < getD head i 0
   lent-low k j f =
       sound .low (ruleIn head body i) (rulesIn-of head body n i l) _ (filled-here head body i lent-room k j f)
-
--- ---- from the rules or the hypotheses alone to a whole board
-
--- what holds on a board is what holds by its rules alone
-pub holds-rules : (chosen : ℕ → Bool) (b : Board) (a : ℕ) → holds chosen b a ≡ holds chosen (rulesAlone (b .rules)) a
-unfolding holds
-holds-rules chosen b a = refl
-
--- the declarations of a board are those of its hypotheses alone
-pub declarations-hypotheses : (b : Board) → declarations b ≡ declarations (hypothesesAlone (b .hypotheses))
-unfolding declarations
-declarations-hypotheses b = refl

@@ -9,7 +9,7 @@ use lib.ListN.{length, getD, length-append, length-map, List·getD-map}
 use Rattle.board.specs.Lists.{pad, zeroFrom}
 use Rattle.board.specs.Lists.Flatten.{take-drop-flatten}
 use Rattle.board.specs.Lists.Padding.{length-pad, getD-pad, drop-pad-same}
-use Rattle.board.specs.Lists.Tests.{and-both, and-left, and-right}
+use Rattle.board.specs.Tests.{and-both, and-left, and-right}
 use Rattle.board.specs.Sizes.{mostAtoms, mostRules, mostBody, mostW}
 use Rattle.board.specs.Board.{Board, Hypothesis, Rule, isHypothesis, W}
 use Rattle.board.specs.Accepted.{within}
@@ -20,13 +20,13 @@ use Rattle.board.specs.Load.Checks.{finish-weight}
 use Rattle.board.specs.Load.Laws.{zero-recordPasses, soFar-hypotheses, soFar-rules, boardPasses-soFar, boardPasses-finish}
 use Rattle.board.specs.Load.Room.{soFar-room}
 use Rattle.board.specs.Load.Rules.{afterRules, rulePasses-zero}
-use Rattle.board.specs.Table.{boardOf, placesOf, tableOf}
+use Rattle.board.specs.Table.{placesIn, boardOf, placesOf, tableOf}
 use Rattle.board.specs.Table.Arrays.{noRule, boardOf-tableOf, hypothesesIn-tableOf}
 use Rattle.board.specs.Table.Bounds.{rules-bounds}
 use Rattle.board.specs.Table.Fields.{Sized, ruleStands, sizesStand, roomStands}
 use Rattle.board.specs.Table.Passes.{recordPasses, hypothesesPass, rulePasses, rulesPass, soFar, boardPasses}
 use Rattle.board.specs.Table.Taking.{length-places}
-use Rattle.board.specs.Lent.Laws.{placesIn, length-rulesIn}
+use Rattle.board.specs.Lent.Laws.{length-rulesIn}
 use Rattle.board.specs.Table.Fields.Parts.{hypothesesOf, ruleOf, Stands, parts-room}
 use Rattle.board.specs.Table.Places.{length-placesOf}
 

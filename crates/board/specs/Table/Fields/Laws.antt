@@ -2,10 +2,9 @@
 -- nothing else. Assumes nothing.
 use mathlib.Core.Path.{_≡_, sym}
 use lib.Dec.{T}
-use Rattle.board.specs.Lists.Tests.{T-ext, and-left, and-right}
+use Rattle.board.specs.Tests.{T-ext, and-left, and-right}
 use Rattle.board.specs.Accepted.{isBoard}
 use Rattle.board.specs.Accepted.Laws.{passes-accepted}
-use Rattle.board.specs.Load.Loaded.{loaded-passes}
 use Rattle.board.specs.Table.{boardOf, tableOf, sameTable, isTable}
 use Rattle.board.specs.Table.Arrays.{sameTable→eq}
 use Rattle.board.specs.Table.Fields.{Sized, fieldsStand}
@@ -19,13 +18,13 @@ use Rattle.board.specs.declared.Table.{Table}
 -- the board of a table that passes, passes
 pub isTable-passes : (t : Table) → T (isTable t) → T (boardPasses (boardOf t))
 isTable-passes t s =
-    and-left (boardPasses (boardOf t)) (sameTable (tableOf (boardOf t)) t) (rw (isTable-by-fields loaded-passes t) at s)
+    and-left (boardPasses (boardOf t)) (sameTable (tableOf (boardOf t)) t) (rw (isTable-by-fields t) at s)
 
 -- the table holds that board and nothing else
 pub isTable-stored : (t : Table) → T (isTable t) → t ≡ tableOf (boardOf t)
 isTable-stored t s =
     sym (sameTable→eq (tableOf (boardOf t)) t
-    (and-right (boardPasses (boardOf t)) (sameTable (tableOf (boardOf t)) t) (rw (isTable-by-fields loaded-passes t) at s)))
+    (and-right (boardPasses (boardOf t)) (sameTable (tableOf (boardOf t)) t) (rw (isTable-by-fields t) at s)))
 
 -- and that board is accepted
 pub isTable-board : (t : Table) → T (isTable t) → T (isBoard (boardOf t))

@@ -6,15 +6,14 @@ use lib.Dec.{T, leb, leb→le, le→leb}
 use Rattle.board.specs.Lists.{all, below, zeroFrom}
 use Rattle.board.specs.Lists.Laws.{all-at}
 use Rattle.board.specs.Lists.Places.{below-of, all-below}
-use Rattle.board.specs.Lists.Tests.{and-left, and-right, and-five, five-and}
+use Rattle.board.specs.Tests.{and-left, and-right, and-five, five-and}
 use Rattle.board.specs.Sizes.{mostAtoms, mostRules, mostBody, mostW}
 use Rattle.board.specs.Board.{Hypothesis, W}
 use Rattle.board.specs.Accepted.{within}
 use Rattle.board.specs.Accepted.Within.{within-low, within-high}
-use Rattle.board.specs.Table.{boardOf}
+use Rattle.board.specs.Table.{hypothesesIn, boardOf}
 use Rattle.board.specs.Table.Fields.{ruleStands, sizesStand, roomStands, fieldsStand}
 use Rattle.board.specs.Table.Passes.{hypothesesPass}
-use Rattle.board.specs.Lent.{hypothesesIn}
 use Rattle.board.specs.declared.Table.{Table}
 
 -- the hypotheses that stand in a table's arrays

@@ -15,18 +15,16 @@ use Rattle.board.specs.Lists.Places.{map-getD-take}
 use Rattle.board.specs.Sizes.{mostAtoms, mostRules, mostBody, mostW}
 use Rattle.board.specs.Board.{Board, Hypothesis, Rule, W}
 use Rattle.board.specs.File.{count, rule, finish}
-use Rattle.board.specs.Load.{noBoard, filled, fieldChecks, firstFailing, taking}
+use Rattle.board.specs.Load.{noBoard, fieldChecks, firstFailing, taking}
 use Rattle.board.specs.Load.Checks.{rule-filledFirst}
 use Rattle.board.specs.Load.Laws.{recordPasses-zero, soFar-of, soFar-rule, boardPasses-of}
 use Rattle.board.specs.Load.Rules.{afterRules}
-use Rattle.board.specs.Table.{boardOf, placesOf, tableOf}
+use Rattle.board.specs.Table.{hypothesisIn, placesIn, ruleIn, hypothesesIn, rulesIn, boardOf, placesOf, tableOf}
 use Rattle.board.specs.Table.Fields.{Sized, ruleStands}
 use Rattle.board.specs.Table.Passes.{hypothesesPass, rulesPass, soFar, boardPasses}
 use Rattle.board.specs.Table.Places.{placesOf-filled}
 use Rattle.board.specs.Table.Taking.{table-path}
-use Rattle.board.specs.Holds.Remembered.{ruleIn}
-use Rattle.board.specs.Lent.{hypothesesIn, rulesIn, boardOf-lent}
-use Rattle.board.specs.Lent.Laws.{hypothesisIn, placesIn, length-hypothesesIn, rulesIn-suc, rulesIn-zero, length-rulesIn}
+use Rattle.board.specs.Lent.Laws.{length-hypothesesIn, rulesIn-suc, rulesIn-zero, length-rulesIn}
 use Rattle.board.specs.Table.Fields.Parts.{hypothesesOf, Stands, sizes-parts, room-parts}
 use Rattle.board.specs.declared.Table.{Table}
 
@@ -67,7 +65,7 @@ module _ (atoms : ℕ) (hs : List Hypothesis) (head body : List ℕ) where
   unfolding placesOf flatten
   rules-places zero l s = rw rulesIn-zero
   rules-places (suc n) l s =
-      let same : placesOf (record { head = getD head n 0; body = filled (placesIn body n) }) ≡ placesIn body n =
+      let same : placesOf (ruleIn head body n) ≡ placesIn body n =
       placesOf-filled (getD head n 0) (placesIn body n) (eight-places n l) (rule-filledFirst _ _ (placesIn body n) (stands-zero n (s n (omega arith)))) in
       let next : mostBody * suc n ≡ mostBody * n + mostBody = omega arith in
       rw (rulesIn-suc, flatten-map-snoc, same, rules-places n (omega arith) (λ j k. s j (omega arith)), next)
@@ -93,24 +91,24 @@ module _ (t : Table) (sized : Sized t) (s : Stands t) where
 
   -- it passes
   pub stands-passes : T (boardPasses (boardOf t))
+  unfolding boardOf
   stands-passes =
       let k = sizes-parts t (s .sizes) in
       boardPasses-of (boardOf t)
-      (rw boardOf-lent (rules-soFar (t .atoms) (hypothesesOf t) (t .head) (t .body) (k .0) (k .1) (s .hypotheses) (t .rules) places-room (s .rules)))
+      (rules-soFar (t .atoms) (hypothesesOf t) (t .head) (t .body) (k .0) (k .1) (s .hypotheses) (t .rules) places-room (s .rules))
       (finish-zero (boardOf t) (s .weight))
 
   -- the table holds it and nothing else
   pub stands-stored : t ≡ tableOf (boardOf t)
-  unfolding tableOf hypothesesIn rulesIn
+  unfolding boardOf tableOf hypothesesIn rulesIn
   stands-stored =
       let k = sizes-parts t (s .sizes) in
       let z = room-parts t (s .room) in
       let at = hypothesisIn (t .declaration) (t .atom) (t .weight) in
-      rw boardOf-lent
-      (table-path refl (sym (length-hypothesesIn (t .declaration) (t .atom) (t .weight) (t .hypotheses))) (sym (length-rulesIn (t .head) (t .body) (t .rules)))
+      table-path refl (sym (length-hypothesesIn (t .declaration) (t .atom) (t .weight) (t .hypotheses))) (sym (length-rulesIn (t .head) (t .body) (t .rules)))
       (field-stored (λ (h : Hypothesis). h .declaration) at mostAtoms (t .hypotheses) (t .declaration) (λ i. refl) (sized .declaration) (k .2) (z .0))
       (field-stored (λ (h : Hypothesis). h .atom) at mostAtoms (t .hypotheses) (t .atom) (λ i. refl) (sized .atom) (k .2) (z .1))
       (field-stored (λ (h : Hypothesis). h .weight) at mostAtoms (t .hypotheses) (t .weight) (λ i. refl) (sized .weight) (k .2) (z .2))
       (field-stored (λ (r : Rule). r .head) (ruleIn (t .head) (t .body)) mostRules (t .rules) (t .head) (λ i. refl) (sized .head) (k .3) (z .3))
       (array-stored (mostBody * mostRules) (mostBody * t .rules) (t .body) _ (sized .body) (omega arith) (z .4)
-      (rules-places (t .atoms) (hypothesesOf t) (t .head) (t .body) (t .rules) places-room (s .rules))))
+      (rules-places (t .atoms) (hypothesesOf t) (t .head) (t .body) (t .rules) places-room (s .rules)))
