@@ -48,14 +48,15 @@ hypothesesIn declaration atom weight n = map (hypothesisIn declaration atom weig
 unfoldable pub rulesIn : List ℕ → List ℕ → ℕ → List Rule
 rulesIn head body n = map (ruleIn head body) (below n)
 
+-- the board of the first n hypotheses, with so many atoms and these rules: for contracts of functions that are lent the arrays of the hypotheses alone
+abbrev pub boardIn : ℕ → List ℕ → List ℕ → List ℕ → ℕ → List Rule → Board
+boardIn atoms declaration atom weight n rules =
+    record { atoms = atoms; hypotheses = hypothesesIn declaration atom weight n; rules = rules }
+
 -- the board that a table holds
 unfoldable pub boardOf : Table → Board
 boardOf t =
-    record {
-      atoms = t .atoms;
-      hypotheses = hypothesesIn (t .declaration) (t .atom) (t .weight) (t .hypotheses);
-      rules = rulesIn (t .head) (t .body) (t .rules);
-    }
+    boardIn (t .atoms) (t .declaration) (t .atom) (t .weight) (t .hypotheses) (rulesIn (t .head) (t .body) (t .rules))
 
 -- ---- from a board to its table
 

@@ -9,16 +9,13 @@ use crate::weights::product_passes;
 use crate::weights::wide;
 ghost use mathlib.Core.Path.{_≡_};
 ghost use mathlib.Core.List.{List, []};
-ghost use mathlib.Core.Bool.{_&&_};
-ghost use Prim.Native.Nat.{ℕ, _*_, _≤_};
-ghost use lib.Dec.{leb};
+ghost use Prim.Native.Nat.{ℕ, _≤_};
 ghost use Rattle.board.specs.Lists.{all, below, zeroFrom};
-ghost use Rattle.board.specs.Sizes.{mostAtoms, mostRules, mostBody};
-ghost use Rattle.board.specs.Accepted.{within};
+ghost use Rattle.board.specs.Sizes.{mostAtoms, mostRules};
 ghost use Rattle.board.specs.Board.{declarationsIn};
 ghost use Rattle.board.specs.Table.{hypothesesIn, isTable};
 ghost use Rattle.board.specs.Table.Passes.{hypothesesPass};
-ghost use Rattle.board.specs.Table.Fields.{ruleStands, fieldsStand};
+ghost use Rattle.board.specs.Table.Fields.{ruleStands, sizesStand, roomStands, fieldsStand};
 
 // The greatest weight: three bytes hold it.
 const MOST_WEIGHT: u32 = 16_777_215;
@@ -121,7 +118,7 @@ fn zero_weights(array: &[u32], n: usize) -> bool
 
 // Are the three counts within their limits?
 fn sizes_stand(atoms: usize, hypotheses: usize, rules: usize) -> bool
-    ensures { λ r. ⌜ r ≡ (within 1 mostAtoms atoms && leb hypotheses mostAtoms && leb rules mostRules) ⌝ }
+    ensures { λ r. ⌜ r ≡ sizesStand atoms hypotheses rules ⌝ }
 {
     if atoms < 1 {
         return false;
@@ -147,8 +144,7 @@ fn room_stands<'a>(
 ) -> bool
     requires { ⌜ rules ≤ mostRules ⌝ }
     ensures { λ r.
-        ⌜ r ≡ (zeroFrom hypotheses (now (numbers .entry)) && zeroFrom hypotheses (now (atom .entry)) && zeroFrom hypotheses (now (weight .entry))
-        && zeroFrom rules (now (head .entry)) && zeroFrom (mostBody * rules) (now (body .entry))) ⌝ }
+        ⌜ r ≡ roomStands hypotheses rules (now (numbers .entry)) (now (atom .entry)) (now (weight .entry)) (now (head .entry)) (now (body .entry)) ⌝ }
 {
     if !zero_bytes(numbers, hypotheses) {
         return false;

@@ -16,8 +16,8 @@ ghost use Rattle.board.specs.Sizes.{mostAtoms, mostBody};
 ghost use Rattle.board.specs.Board.{Board, Rule, declarationsIn};
 ghost use Rattle.board.specs.File.{count, hypothesis, rule, finish, lowBytes};
 ghost use Rattle.board.specs.Load.{firstFailing, fieldChecks};
-ghost use Rattle.board.specs.Table.{hypothesesIn};
-ghost use Rattle.board.specs.Lent.{boardIn, Declared};
+ghost use Rattle.board.specs.Table.{hypothesesIn, boardIn};
+ghost use Rattle.board.specs.Lent.{Declared};
 ghost use Rattle.board.specs.EntryPoints.{recordMeans};
 
 // The number of the check that a count record fails, 0 where it fails none.

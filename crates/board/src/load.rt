@@ -5,6 +5,7 @@ use crate::checks::field_refusal;
 use crate::places::put;
 use crate::record::Read;
 use crate::record::Record;
+use crate::record::known_kind;
 use crate::record::read_record;
 use crate::weights::larger;
 use crate::weights::wide;
@@ -33,10 +34,7 @@ fn refused(number: u8, place: usize) -> Loading
 fn misplaced_here(kind: u8, atoms: usize, rules: usize) -> bool
     ensures { λ r. ⌜ ((b : Board) → b .atoms ≡ atoms → length (b .rules) ≡ rules → r ≡ (knownKind kind && misplaced b kind)) ⌝ }
 {
-    if kind < 1 {
-        return false;
-    }
-    if 4 < kind {
+    if !known_kind(kind) {
         return false;
     }
     if atoms == 0 {

@@ -3,7 +3,7 @@ ghost use mathlib.Core.Path.{_≡_};
 ghost use Prim.Native.Nat.{_+_, _≤_};
 ghost use lib.ListN.{length, take, drop};
 ghost use Rattle.board.specs.Sizes.{mostBody};
-ghost use Rattle.board.specs.File.{bodyBytes, threeBytes, lowBytes, recordOf, readRecord};
+ghost use Rattle.board.specs.File.{knownKind, bodyBytes, threeBytes, lowBytes, recordOf, readRecord};
 ghost use Rattle.board.specs.EntryPoints.{recordMeans, readMeans};
 
 // A record by its kind. The eight places of a rule stand in one number, the first place in its low byte.
@@ -79,6 +79,16 @@ fn read_body(file: &[u8], kind: u8, at: usize) -> Record
     }
 }
 
+// Whether a kind byte is one of the four. At most 3 basic steps.
+pub(crate) fn known_kind(kind: u8) -> bool
+    ensures { λ r. ⌜ r ≡ knownKind kind ⌝ }
+{
+    if kind < 1 {
+        return false;
+    }
+    kind <= 4
+}
+
 // Reads the record at a place of a board file. A place past the end counts as the file's length.
 // At most some 100 basic steps, whatever the file.
 pub fn read_record(file: &[u8], at: usize) -> Read
@@ -89,10 +99,7 @@ pub fn read_record(file: &[u8], at: usize) -> Read
         return Read::Refused(1, len);
     }
     let kind = file[at];
-    if kind < 1 {
-        return Read::Refused(2, at);
-    }
-    if 4 < kind {
+    if !known_kind(kind) {
         return Read::Refused(2, at);
     }
     let next = at + 1 + body_bytes(kind);

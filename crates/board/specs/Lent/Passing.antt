@@ -14,7 +14,7 @@ use Rattle.board.specs.Load.{firstFailing, fieldChecks}
 use Rattle.board.specs.Load.Hypotheses.{hypothesisPasses-zero, hypothesisPasses-weight}
 use Rattle.board.specs.Load.Laws.{hypothesesPass-snoc, hypothesisPasses-of}
 use Rattle.board.specs.Table.Passes.{hypothesisPasses, hypothesesPass}
-use Rattle.board.specs.Lent.{boardIn}
+use Rattle.board.specs.Table.{boardIn}
 use Rattle.board.specs.Table.{hypothesisIn, hypothesesIn}
 use Rattle.board.specs.Lent.Laws.{hypothesesIn-suc}
 

@@ -16,7 +16,7 @@ use Rattle.board.specs.Board.{Board, Hypothesis, Rule}
 use Rattle.board.specs.Load.{noBoard, filled}
 use Rattle.board.specs.Load.Checks.{count-room}
 use Rattle.board.specs.Load.Laws.{soFar-atoms, soFar-rules, boardPasses-soFar}
-use Rattle.board.specs.Lent.{boardIn}
+use Rattle.board.specs.Table.{boardIn}
 use Rattle.board.specs.Table.{placesIn, ruleIn, hypothesesIn, rulesIn, boardOf, placesOf, tableOf, sameTable}
 use Rattle.board.specs.Table.Bounds.{RuleBounds, rules-bounds}
 use Rattle.board.specs.Table.Passes.{soFar, boardPasses}

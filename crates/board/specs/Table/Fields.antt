@@ -33,21 +33,30 @@ ruleStands atoms hypotheses head body j =
     recordPasses (record { atoms = atoms; hypotheses = hypotheses; rules = rulesIn head body j })
     (rule (getD head j 0) (placesIn body j))
 
-unfoldable pub sizesStand : Table → Bool
-sizesStand t = within 1 mostAtoms (t .atoms) && leb (t .hypotheses) mostAtoms && leb (t .rules) mostRules
+-- the three counts are within their limits
+unfoldable pub sizesStand : ℕ → ℕ → ℕ → Bool
+sizesStand atoms hypotheses rules = within 1 mostAtoms atoms && leb hypotheses mostAtoms && leb rules mostRules
 
-unfoldable pub roomStands : Table → Bool
-roomStands t =
-    zeroFrom (t .hypotheses) (t .declaration)
-    && zeroFrom (t .hypotheses) (t .atom)
-    && zeroFrom (t .hypotheses) (t .weight)
-    && zeroFrom (t .rules) (t .head)
-    && zeroFrom (mostBody * t .rules) (t .body)
+-- the room past so many hypotheses and rules is zero
+unfoldable pub roomStands : ℕ → ℕ → List ℕ → List ℕ → List ℕ → List ℕ → List ℕ → Bool
+roomStands hypotheses rules declaration atom weight head body =
+    zeroFrom hypotheses declaration
+    && zeroFrom hypotheses atom
+    && zeroFrom hypotheses weight
+    && zeroFrom rules head
+    && zeroFrom (mostBody * rules) body
+
+-- the two of a whole table
+abbrev pub sizesOf : Table → Bool
+sizesOf t = sizesStand (t .atoms) (t .hypotheses) (t .rules)
+
+abbrev pub roomOf : Table → Bool
+roomOf t = roomStands (t .hypotheses) (t .rules) (t .declaration) (t .atom) (t .weight) (t .head) (t .body)
 
 unfoldable pub fieldsStand : Table → Bool
 fieldsStand t =
-    sizesStand t
+    sizesOf t
     && hypothesesPass (t .atoms) [] (hypothesesIn (t .declaration) (t .atom) (t .weight) (t .hypotheses))
     && all (ruleStands (t .atoms) (hypothesesIn (t .declaration) (t .atom) (t .weight) (t .hypotheses)) (t .head) (t .body)) (below (t .rules))
     && leb (W (boardOf t)) mostW
-    && roomStands t
+    && roomOf t

@@ -13,7 +13,7 @@ use Rattle.board.specs.Sizes.{mostW}
 use Rattle.board.specs.Board.{W}
 use Rattle.board.specs.Table.{hypothesesIn, rulesIn, boardOf}
 use Rattle.board.specs.Table.Declared.{declared-passing}
-use Rattle.board.specs.Table.Fields.{ruleStands, sizesStand, roomStands, fieldsStand}
+use Rattle.board.specs.Table.Fields.{ruleStands, sizesOf, fieldsStand}
 use Rattle.board.specs.Table.Fields.Parts.{sizes-parts}
 use Rattle.board.specs.Table.Passes.{hypothesesPass}
 use Rattle.board.specs.declared.Table.{Table}
@@ -39,13 +39,12 @@ sizes-stand-requires : tie.Need-sizes-stand-requires
 sizes-stand-requires c κs = tt
 
 returns : tie.Need-returns
-unfolding fieldsStand sizesStand
+unfolding fieldsStand
 returns c = simp (sym (c .before .sizes-stand .ensures) ∙ not-true _ (c .if1 .taken))
 
 -- ---- what the tests found, place by place
 
-sizes-right : (c : tie.Else1) → sizesStand (table (c .before .before)) ≡ true
-unfolding sizesStand
+sizes-right : (c : tie.Else1) → sizesOf (table (c .before .before)) ≡ true
 sizes-right c = sym (c .before .sizes-stand .ensures) ∙ not-false _ (c .if1 .left)
 
 room-right : (c : tie.Else1) → (c .before .before .args .hypotheses ≤ 128) × (c .before .before .args .rules ≤ 256)
@@ -116,7 +115,7 @@ room-stands-requires : tie.Need-room-stands-requires
 room-stands-requires c κs = room-right (c .before .before .before .before .before .before .before) .1
 
 returns-5 : tie.Need-returns-5
-unfolding fieldsStand roomStands
+unfolding fieldsStand
 returns-5 c =
     let h = c .before in
     let g = h .before .before .before in

@@ -4,6 +4,7 @@ use mathlib.Core.Bool.{true}
 use denote.Ref.{now}
 use borrow.Author.Tests.{not-true, not-false}
 use Rattle.board.specs.Lists.{zeroFrom}
+use Rattle.board.specs.Table.Fields.{roomStands}
 use borrow.Author.Needs.{needs}
 use Rattle.board.proofs.accepted.room_stands.Statement.{statement}
 use Rattle.board.proofs.accepted.room_stands.Tie as tie
@@ -27,18 +28,21 @@ heads-zero : (c : tie.Else4)
 heads-zero c = sym (c .before .zero-bytes3 .ensures) ∙ not-false _ (c .if4 .left)
 
 returns : tie.Need-returns
+unfolding roomStands
 returns c = simp (sym (c .before .zero-bytes .ensures) ∙ not-true _ (c .if1 .taken))
 
 zero-bytes-requires-2 : tie.Need-zero-bytes-requires-2
 zero-bytes-requires-2 c κs = search needs
 
 returns-2 : tie.Need-returns-2
+unfolding roomStands
 returns-2 c = simp (numbers-zero (c .before .before .before), sym (c .before .zero-bytes2 .ensures) ∙ not-true _ (c .if2 .taken))
 
 zero-weights-requires : tie.Need-zero-weights-requires
 zero-weights-requires c κs = search needs
 
 returns-3 : tie.Need-returns-3
+unfolding roomStands
 returns-3 c =
     let f = c .before .before .before in
     simp (numbers-zero (f .before .before .before), atoms-zero f, sym (c .before .zero-weights .ensures) ∙ not-true _ (c .if3 .taken))
@@ -47,6 +51,7 @@ zero-bytes-requires-3 : tie.Need-zero-bytes-requires-3
 zero-bytes-requires-3 c κs = search needs
 
 returns-4 : tie.Need-returns-4
+unfolding roomStands
 returns-4 c =
     let g = c .before .before .before in
     let f = g .before .before .before in
@@ -59,6 +64,7 @@ zero-bytes-requires-4 : tie.Need-zero-bytes-requires-4
 zero-bytes-requires-4 c κs = search needs
 
 returns-5 : tie.Need-returns-5
+unfolding roomStands
 returns-5 c =
     let h = c .before .before in
     let g = h .before .before .before in

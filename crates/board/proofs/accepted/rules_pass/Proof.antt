@@ -15,7 +15,7 @@ use Rattle.board.specs.Load.{firstFailing, fieldChecks}
 use Rattle.board.specs.Load.Laws.{recordPasses-zero, zero-recordPasses}
 use Rattle.board.specs.Table.Fields.{ruleStands}
 use Rattle.board.specs.Table.{hypothesesIn, rulesIn}
-use Rattle.board.specs.Lent.{boardIn}
+use Rattle.board.specs.Table.{boardIn}
 use Rattle.board.specs.Lent.Laws.{length-rulesIn}
 use Rattle.board.proofs.accepted.rules_pass.Statement.{statement}
 use Rattle.board.proofs.accepted.rules_pass.Tie as tie

@@ -23,7 +23,7 @@ use Rattle.board.specs.Load.Rules.{afterRules, rulePasses-zero}
 use Rattle.board.specs.Table.{placesIn, boardOf, placesOf, tableOf}
 use Rattle.board.specs.Table.Arrays.{noRule, boardOf-tableOf, hypothesesIn-tableOf}
 use Rattle.board.specs.Table.Bounds.{rules-bounds}
-use Rattle.board.specs.Table.Fields.{Sized, ruleStands, sizesStand, roomStands}
+use Rattle.board.specs.Table.Fields.{Sized, ruleStands, sizesStand, sizesOf, roomOf}
 use Rattle.board.specs.Table.Passes.{recordPasses, hypothesesPass, rulePasses, rulesPass, soFar, boardPasses}
 use Rattle.board.specs.Table.Taking.{length-places}
 use Rattle.board.specs.Lent.Laws.{length-rulesIn}
@@ -55,7 +55,7 @@ module _ (b : Board) (p : T (boardPasses b)) where
   read = boardPasses-soFar b p
 
   -- its sizes
-  tableOf-sizes : T (sizesStand (tableOf b))
+  tableOf-sizes : T (sizesOf (tableOf b))
   unfolding sizesStand tableOf
   tableOf-sizes =
       let k = soFar-room b read in
@@ -86,7 +86,7 @@ module _ (b : Board) (p : T (boardPasses b)) where
   tableOf-weight = rw (boardOf-tableOf b p) (finish-weight b (boardPasses-finish b p))
 
   -- its unused room
-  tableOf-room : T (roomStands (tableOf b))
+  tableOf-room : T (roomOf (tableOf b))
   unfolding tableOf zeroFrom
   tableOf-room =
       let n : ℕ = length (b .hypotheses) in

@@ -12,7 +12,7 @@ use Rattle.board.specs.Board.{Hypothesis, W}
 use Rattle.board.specs.Accepted.{within}
 use Rattle.board.specs.Accepted.Within.{within-low, within-high}
 use Rattle.board.specs.Table.{hypothesesIn, boardOf}
-use Rattle.board.specs.Table.Fields.{ruleStands, sizesStand, roomStands, fieldsStand}
+use Rattle.board.specs.Table.Fields.{ruleStands, sizesStand, roomStands, sizesOf, roomOf, fieldsStand}
 use Rattle.board.specs.Table.Passes.{hypothesesPass}
 use Rattle.board.specs.declared.Table.{Table}
 
@@ -26,28 +26,28 @@ ruleOf t j = ruleStands (t .atoms) (hypothesesOf t) (t .head) (t .body) j
 
 -- what the test of the fields asks for, part by part
 pub record Stands (t : Table) : Type 0 where
-  pub sizes : T (sizesStand t)
+  pub sizes : T (sizesOf t)
   pub hypotheses : T (hypothesesPass (t .atoms) [] (hypothesesOf t))
   pub rules : (j : ℕ) → j < t .rules → T (ruleOf t j)
   pub weight : W (boardOf t) ≤ mostW
-  pub room : T (roomStands t)
+  pub room : T (roomOf t)
 
 -- a table that passes has them all
 pub fieldsStand→ : (t : Table) → T (fieldsStand t) → Stands t
 unfolding fieldsStand
 fieldsStand→ t s =
-    let k = five-and (sizesStand t) (hypothesesPass (t .atoms) [] (hypothesesOf t)) (all (ruleOf t) (below (t .rules))) (leb (W (boardOf t)) mostW) (roomStands t) s in
+    let k = five-and (sizesOf t) (hypothesesPass (t .atoms) [] (hypothesesOf t)) (all (ruleOf t) (below (t .rules))) (leb (W (boardOf t)) mostW) (roomOf t) s in
     record { sizes = k .0; hypotheses = k .1; rules = λ j l. all-at (ruleOf t) (k .2) (below-of l); weight = leb→le (W (boardOf t)) mostW (k .3); room = k .4 }
 
 -- a table that has them all passes
 pub →fieldsStand : (t : Table) → Stands t → T (fieldsStand t)
 unfolding fieldsStand
 →fieldsStand t s =
-    and-five (sizesStand t) (hypothesesPass (t .atoms) [] (hypothesesOf t)) (all (ruleOf t) (below (t .rules))) (leb (W (boardOf t)) mostW) (roomStands t)
+    and-five (sizesOf t) (hypothesesPass (t .atoms) [] (hypothesesOf t)) (all (ruleOf t) (below (t .rules))) (leb (W (boardOf t)) mostW) (roomOf t)
     (s .sizes, s .hypotheses, all-below (ruleOf t) (t .rules) (s .rules), le→leb (W (boardOf t)) mostW (s .weight), s .room)
 
 -- the sizes, one by one
-pub sizes-parts : (t : Table) → T (sizesStand t) → (1 ≤ t .atoms) × (t .atoms ≤ mostAtoms) × (t .hypotheses ≤ mostAtoms) × (t .rules ≤ mostRules)
+pub sizes-parts : (t : Table) → T (sizesOf t) → (1 ≤ t .atoms) × (t .atoms ≤ mostAtoms) × (t .hypotheses ≤ mostAtoms) × (t .rules ≤ mostRules)
 unfolding sizesStand
 sizes-parts t s =
     let a : Bool = within 1 mostAtoms (t .atoms) in
@@ -67,14 +67,14 @@ RoomParts t =
     × T (zeroFrom (t .rules) (t .head)) × T (zeroFrom (mostBody * t .rules) (t .body))
 
 -- unused room that stands is zero in each array
-pub room-parts : (t : Table) → T (roomStands t) → RoomParts t
+pub room-parts : (t : Table) → T (roomOf t) → RoomParts t
 unfolding roomStands
 room-parts t s =
     five-and (zeroFrom (t .hypotheses) (t .declaration)) (zeroFrom (t .hypotheses) (t .atom)) (zeroFrom (t .hypotheses) (t .weight))
     (zeroFrom (t .rules) (t .head)) (zeroFrom (mostBody * t .rules) (t .body)) s
 
 -- .. the other way round
-pub parts-room : (t : Table) → RoomParts t → T (roomStands t)
+pub parts-room : (t : Table) → RoomParts t → T (roomOf t)
 unfolding roomStands
 parts-room t z =
     and-five (zeroFrom (t .hypotheses) (t .declaration)) (zeroFrom (t .hypotheses) (t .atom)) (zeroFrom (t .hypotheses) (t .weight))
