@@ -1,18 +1,18 @@
 -- Which boards are accepted, sentence by sentence: document 01, "Board tables and board states". This is what a reader may rely on of a loaded
 -- table; `Load` says the same file by file, refusal by refusal, and laws say that a board is accepted exactly if some file loads to it.
 -- Assumes nothing.
-pub mod Distinct
-pub mod Exact
-pub mod Laws
-pub mod Within
-use Prim.Native.Nat.{ℕ, suc}
+use Prim.Native.Nat.{ℕ, suc, _<_}
 use mathlib.Core.Bool.{Bool, true, false, not, _&&_}
-use mathlib.Core.List.{List, [], _∷_, map}
+use mathlib.Core.List.{List, [], _∷_, map, List·Memᴰ}
 use lib.Dec.{leb, ltb}
 use lib.ListN.{length}
-use Rattle.board.specs.Lists.{all, among, ascending}
+use Rattle.sets.specs.Lists.{all, among, ascending}
 use Rattle.board.specs.Sizes.{mostAtoms, mostDeclarations, mostHypotheses, mostWeight, mostRules, mostBody, mostW}
 use Rattle.board.specs.Board.{Board, Hypothesis, Rule, declarationsIn, declarations, isHypothesis, W}
+
+-- "Body atoms are below the head"
+abbrev pub BodiesBelow : List Rule → Type 0
+BodiesBelow rules = (r : Rule) → List·Memᴰ r rules → (a : ℕ) → List·Memᴰ a (r .body) → a < r .head
 
 -- lo ≤ n ≤ hi
 unfoldable pub within : ℕ → ℕ → ℕ → Bool

@@ -1,7 +1,6 @@
 -- The entry points of `board`, as the contracts cite them: what each gives, and for each answer that is an enum of the code the paper's number
 -- and values of its cases. Document 01: "A refused load returns the table whose every field is zero. .. A refused yes-or-no or share returns its
 -- number alone." Assumes nothing.
-pub mod Laws
 use Prim.Native.Nat.{ℕ}
 use mathlib.Core.Path.{_≡_}
 use mathlib.Core.Bool.{Bool, true, false, not, cond}

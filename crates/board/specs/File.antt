@@ -1,7 +1,5 @@
 -- The board file, record by record: document 01, "The board file". A file is a list of bytes; a place is an index into it.
 -- Assumes nothing.
-pub mod Bytes
-pub mod Laws
 use Prim.Native.Nat.{ℕ, zero, suc, _+_, _*_, _/_, _%_}
 use mathlib.Core.Bool.{Bool, true, false, _&&_, cond}
 use mathlib.Core.List.{List, [], _∷_}

@@ -2,18 +2,14 @@
 -- File, Load, Table, EntryPoints, Facts.
 -- `Lists` has the few functions on lists that these lean on, and `Tests` the laws of tests, functions into Bool.
 -- `Promise` lists the laws that `search` may cite.
-pub mod Lists
-pub mod Tests
-pub mod Sizes
-pub mod Sets
+pub mod Accepted
 pub mod Answers
 pub mod Board
-pub mod Holds
-pub mod Accepted
-pub mod File
-pub mod Load
-pub mod Table
-pub mod Lent
 pub mod EntryPoints
 pub mod Facts
-pub mod Promise
+pub mod File
+pub mod Holds
+pub mod Load
+pub mod Private
+pub mod Sizes
+pub mod Table

@@ -4,23 +4,12 @@
 -- record. The place is the record's first byte, or the file's length if no byte is left."
 -- What has been read so far is a board; one with no atoms has not had its count yet, since a count of 0 is refused.
 -- Assumes nothing.
-pub mod Checks
-pub mod Filled
-pub mod Hypotheses
-pub mod Laws
-pub mod Loaded
-pub mod Places
-pub mod Progress
-pub mod Reading
-pub mod Room
-pub mod Rules
-pub mod Steps
 use Prim.Native.Nat.{ℕ, zero, suc}
 use mathlib.Core.Bool.{Bool, true, false, not, _&&_, _||_, cond}
 use mathlib.Core.List.{List, [], _∷_, _++_}
 use lib.Dec.{leb, ltb, eqb}
 use lib.ListN.{length, getD}
-use Rattle.board.specs.Lists.{any, all, keep, isEmpty, ascending}
+use Rattle.sets.specs.Lists.{any, all, keep, isEmpty, ascending}
 use Rattle.board.specs.Sizes.{mostAtoms, mostDeclarations, mostHypotheses, mostRules, mostW, emptyPlace}
 use Rattle.board.specs.Board.{Board, Hypothesis, Rule, declarationsIn, declaration, isHypothesis, W}
 use Rattle.board.specs.File.{Record, count, hypothesis, rule, finish, Found, knownKind, readRecord}

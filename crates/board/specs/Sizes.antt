@@ -2,9 +2,7 @@
 -- from 0, each of 1 to 16 hypotheses with whole weights 1 to 16,777,215; and 0 to 256 rules, each with a head and 0 to 8 body atoms."
 -- Assumes nothing.
 use Prim.Native.Nat.{ℕ}
-
-abbrev pub mostAtoms : ℕ
-mostAtoms = 128
+pub use Rattle.sets.specs.Sets.{mostAtoms}
 
 abbrev pub mostDeclarations : ℕ
 mostDeclarations = 32

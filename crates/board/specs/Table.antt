@@ -2,15 +2,6 @@
 -- one array a field, with a count beside them; unused room is zero, and an empty body place of a rule is 255 as in the file.
 -- Refusal 20 is for "a table handed in that no file loads to": one for which there is no `Loads` below. `isTable` is the test that the entry points
 -- cite: the table, written out as a file, loads to itself. Assumes nothing.
-pub mod Arrays
-pub mod Bounds
-pub mod Declared
-pub mod Fields
-pub mod Laws
-pub mod Passes
-pub mod Places
-pub mod Taking
-pub mod Written
 use Prim.Native.Nat.{ℕ, _*_}
 use mathlib.Core.Path.{_≡_}
 use mathlib.Core.Bool.{Bool, true, false, _&&_}
@@ -18,7 +9,7 @@ use mathlib.Core.List.{List, [], _∷_, _++_, map, flatten}
 use lib.Dec.{T, eqb}
 use lib.Pow.{areBytes}
 use lib.ListN.{length, getD, take, drop, replicate}
-use Rattle.board.specs.Lists.{pad, below, sameNumbers}
+use Rattle.sets.specs.Lists.{pad, below, sameNumbers}
 use Rattle.board.specs.Sizes.{mostAtoms, mostRules, mostBody, emptyPlace}
 use Rattle.board.specs.Answers.{FileAnswer, accepted, refusedAt}
 use Rattle.board.specs.Board.{Board, Hypothesis, Rule}

@@ -10,12 +10,12 @@ use crate::weights::wide;
 ghost use mathlib.Core.Path.{_≡_};
 ghost use mathlib.Core.List.{List, []};
 ghost use Prim.Native.Nat.{ℕ, _≤_};
-ghost use Rattle.board.specs.Lists.{all, below, zeroFrom};
+ghost use Rattle.sets.specs.Lists.{all, below, zeroFrom};
 ghost use Rattle.board.specs.Sizes.{mostAtoms, mostRules};
 ghost use Rattle.board.specs.Board.{declarationsIn};
 ghost use Rattle.board.specs.Table.{hypothesesIn, isTable};
-ghost use Rattle.board.specs.Table.Passes.{hypothesesPass};
-ghost use Rattle.board.specs.Table.Fields.{ruleStands, sizesStand, roomStands, fieldsStand};
+ghost use Rattle.board.specs.Private.Passes.{hypothesesPass};
+ghost use Rattle.board.specs.Private.Fields.{ruleStands, sizesStand, roomStands, fieldsStand};
 
 // The greatest weight: three bytes hold it.
 const MOST_WEIGHT: u32 = 16_777_215;

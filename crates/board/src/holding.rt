@@ -16,7 +16,7 @@ ghost use Rattle.board.specs.Board.{declaration, declarations, declarati
 ghost use Rattle.board.specs.EntryPoints.{toldMeans, yesOrNo};
 ghost use Rattle.board.specs.Table.{ruleIn, hypothesesIn};
 ghost use Rattle.board.specs.Holds.{inState, ruleHolds};
-ghost use Rattle.board.specs.Holds.Remembered.{hypothesesAlone, lentHolds, SoundRules, Remembered};
+ghost use Rattle.board.specs.Private.Remembered.{hypothesesAlone, lentHolds, SoundRules, Remembered};
 
 // Whether the state chooses the atom: at most some 5 d + 4 steps.
 pub(crate) fn in_state(state: &[u8], a: u8) -> bool

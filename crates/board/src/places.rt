@@ -5,7 +5,7 @@ ghost use mathlib.Core.List.{_++_};
 ghost use Prim.Native.Nat.{_+_, _*_, _<_, _≤_};
 ghost use lib.Dec.{leb};
 ghost use lib.ListN.{length, take, drop};
-ghost use Rattle.board.specs.Lists.{any, ascending};
+ghost use Rattle.sets.specs.Lists.{any, ascending};
 ghost use Rattle.board.specs.Sizes.{mostBody};
 ghost use Rattle.board.specs.File.{lowBytes};
 ghost use Rattle.board.specs.Load.{filled, filledFirst};

@@ -9,7 +9,7 @@ use mathlib.Core.List.{List, [], _∷_, _++_, map, flatten}
 use mathlib.Core.Option.{Option, none, some}
 use lib.Dec.{ltb}
 use lib.ListN.{length, getD, take, drop}
-use Rattle.board.specs.Sets.{members}
+use Rattle.sets.specs.Sets.{members}
 use Rattle.board.specs.Answers.{FileAnswer, accepted, refusedAt, Answer, granted, refused}
 use Rattle.board.specs.Board.{Board, W}
 use Rattle.board.specs.Load.{load}

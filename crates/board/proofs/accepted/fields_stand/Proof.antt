@@ -7,15 +7,15 @@ use Prim.Native.Nat.{ℕ, _≤_}
 use lib.Dec.{T, ltb}
 use denote.Ref.{now}
 use borrow.Author.Tests.{not-true, not-false, ltb-true, ltb-false, le-leb, lt-leb}
-use Rattle.board.specs.Lists.{all, below}
-use Rattle.board.specs.Tests.{T-of-true}
+use Rattle.sets.specs.Lists.{all, below}
+use Rattle.sets.proofs.Laws.Tests.{T-of-true}
 use Rattle.board.specs.Sizes.{mostW}
 use Rattle.board.specs.Board.{W}
 use Rattle.board.specs.Table.{hypothesesIn, rulesIn, boardOf}
-use Rattle.board.specs.Table.Declared.{declared-passing}
-use Rattle.board.specs.Table.Fields.{ruleStands, sizesOf, fieldsStand}
-use Rattle.board.specs.Table.Fields.Parts.{sizes-parts}
-use Rattle.board.specs.Table.Passes.{hypothesesPass}
+use Rattle.board.proofs.Laws.Table.Declared.{declared-passing}
+use Rattle.board.specs.Private.Fields.{ruleStands, sizesOf, fieldsStand}
+use Rattle.board.proofs.Laws.Table.Fields.Parts.{sizes-parts}
+use Rattle.board.specs.Private.Passes.{hypothesesPass}
 use Rattle.board.specs.declared.Table.{Table}
 use Rattle.board.proofs.accepted.fields_stand.Statement.{statement}
 use Rattle.board.proofs.accepted.fields_stand.Tie as tie

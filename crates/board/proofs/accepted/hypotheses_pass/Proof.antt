@@ -7,13 +7,13 @@ use Prim.Native.Nat.{ℕ, suc, _+_, _-_, _≤_, max}
 use lib.Dec.{T}
 use lib.ListN.{getD}
 use denote.Ref.{now}
-use Rattle.board.specs.Lists.{below, numbersFrom}
-use Rattle.board.specs.Tests.{true-of-T}
+use Rattle.sets.specs.Lists.{below, numbersFrom}
+use Rattle.sets.proofs.Laws.Tests.{true-of-T}
 use Rattle.board.specs.Board.{declarationsIn}
-use Rattle.board.specs.Table.Passes.{hypothesesPass}
+use Rattle.board.specs.Private.Passes.{hypothesesPass}
 use Rattle.board.specs.Table.{hypothesesIn}
-use Rattle.board.specs.Lent.Laws.{declarationsIn-more}
-use Rattle.board.specs.Lent.Passing.{firstPass, firstPass-more, firstPass-fails, nextPasses-of, nextPasses-weight, nextPasses-check}
+use Rattle.board.proofs.Laws.Lent.{declarationsIn-more}
+use Rattle.board.proofs.Laws.Lent.Passing.{firstPass, firstPass-more, firstPass-fails, nextPasses-of, nextPasses-weight, nextPasses-check}
 use Rattle.board.proofs.accepted.hypotheses_pass.Statement.{statement}
 use Rattle.board.proofs.accepted.hypotheses_pass.Tie as tie
 

@@ -1,8 +1,8 @@
 -- `is_table` meets its contract: `isTable` is what the fields' test finds, of arrays that have their lengths. Assumes nothing.
 use borrow.Author.Needs.{needs}
 use mathlib.Core.Path.{sym, _∙_}
-use Rattle.board.specs.Table.Fields.{Sized}
-use Rattle.board.specs.Table.Fields.Laws.{isTable-fields}
+use Rattle.board.specs.Private.Fields.{Sized}
+use Rattle.board.proofs.Laws.Table.Fields.{isTable-fields}
 use Rattle.board.proofs.accepted.is_table.Statement.{statement}
 use Rattle.board.proofs.accepted.is_table.Tie as tie
 

@@ -3,8 +3,8 @@ use mathlib.Core.Path.{_≡_, sym, _∙_}
 use mathlib.Core.Bool.{true}
 use denote.Ref.{now}
 use borrow.Author.Tests.{not-true, not-false}
-use Rattle.board.specs.Lists.{zeroFrom}
-use Rattle.board.specs.Table.Fields.{roomStands}
+use Rattle.sets.specs.Lists.{zeroFrom}
+use Rattle.board.specs.Private.Fields.{roomStands}
 use borrow.Author.Needs.{needs}
 use Rattle.board.proofs.accepted.room_stands.Statement.{statement}
 use Rattle.board.proofs.accepted.room_stands.Tie as tie

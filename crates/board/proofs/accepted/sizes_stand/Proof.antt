@@ -1,7 +1,7 @@
 -- `sizes_stand` meets its contract: its tests are those of the definition. Assumes nothing.
 use borrow.Author.Tests.{le-leb, lt-leb}
 use Rattle.board.specs.Accepted.{within}
-use Rattle.board.specs.Table.Fields.{sizesStand}
+use Rattle.board.specs.Private.Fields.{sizesStand}
 use Rattle.board.proofs.accepted.sizes_stand.Statement.{statement}
 use Rattle.board.proofs.accepted.sizes_stand.Tie as tie
 

@@ -5,8 +5,8 @@ use mathlib.Core.Path.{_≡_, refl, sym, ap, _∙_}
 use Prim.Native.Nat.{ℕ, _-_}
 use lib.ListN.{length}
 use denote.Ref.{now}
-use Rattle.board.specs.Lists.{zeroFrom}
-use Rattle.board.specs.Table.Fields.Zero.{zeroFrom-past, zeroFrom-zero, zeroFrom-other}
+use Rattle.sets.specs.Lists.{zeroFrom}
+use Rattle.board.proofs.Laws.Table.Fields.Zero.{zeroFrom-past, zeroFrom-zero, zeroFrom-other}
 use Rattle.board.proofs.accepted.zero_bytes.Statement.{statement}
 use Rattle.board.proofs.accepted.zero_bytes.Tie as tie
 

@@ -2,7 +2,7 @@
 use mathlib.Core.Path.{_∙_}
 use mathlib.Core.List.{[]}
 use denote.Ref.{now}
-use Rattle.board.specs.Lent.Laws.{declarationsIn-lent}
+use Rattle.board.proofs.Laws.Lent.{declarationsIn-lent}
 use Rattle.board.specs.EntryPoints.{recordMeans}
 use borrow.Author.Needs.{needs}
 use Rattle.board.proofs.checks.field_refusal.Statement.{statement}

@@ -11,7 +11,7 @@ use denote.Ref.{now}
 use borrow.Author.Tests.{le-leb, lt-leb, eq-eqb, ne-eqb, not-true, not-false}
 use Rattle.board.specs.Board.{declarationsIn, declaration, isAtomOf, isHypothesis}
 use Rattle.board.specs.Table.{hypothesesIn}
-use Rattle.board.specs.Lent.Laws.{declarationsIn-lent}
+use Rattle.board.proofs.Laws.Lent.{declarationsIn-lent}
 use Rattle.board.specs.Load.{firstFailing, fieldChecks}
 use Rattle.board.proofs.checks.hypothesis_refusal.Statement.{statement}
 use Rattle.board.proofs.checks.hypothesis_refusal.Tie as tie

@@ -6,7 +6,7 @@ use Prim.Native.Nat.{ℕ}
 use lib.Dec.{leb}
 use lib.ListN.{length}
 use borrow.Author.Tests.{le-leb, lt-leb, not-true, not-false}
-use Rattle.board.specs.Lists.{any, ascending}
+use Rattle.sets.specs.Lists.{any, ascending}
 use Rattle.board.specs.Board.{isHypothesis}
 use Rattle.board.specs.File.{lowBytes}
 use Rattle.board.specs.Load.{filled, filledFirst, firstFailing, fieldChecks}

@@ -14,8 +14,8 @@ use borrow.Fn.Kinds.{In}
 use borrow.Fn.PlainCycle.{Measures, is, falls, and}
 use Rattle.board.specs.Holds.{ruleHolds}
 use Rattle.board.specs.Table.{ruleIn}
-use Rattle.board.specs.Holds.Remembered.{lentHolds, Remembered}
-use Rattle.board.specs.Holds.Remembered.Laws.{told-yes, told-no, rule-everywhere, rule-not-here, lent-chosen, lent-rule, lent-none, lent-room, lent-low}
+use Rattle.board.specs.Private.Remembered.{lentHolds, Remembered}
+use Rattle.board.proofs.Laws.Holds.Remembered.{told-yes, told-no, rule-everywhere, rule-not-here, lent-chosen, lent-rule, lent-none, lent-room, lent-low}
 use Rattle.board.proofs.holding.atom_holds.Reads as atom
 use Rattle.board.proofs.holding.atom_holds.Kinds as atom-kinds
 use Rattle.board.proofs.holding.+atom_holds+rule_holds.Lts-atom_holds as atom-lts

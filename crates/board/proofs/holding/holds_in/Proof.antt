@@ -1,7 +1,7 @@
 -- `holds_in` meets its contract: nothing is marked at first. Assumes nothing.
 use denote.Ref.{now}
-use Rattle.board.specs.Holds.Remembered.{lentHolds}
-use Rattle.board.specs.Holds.Remembered.Laws.{remembered-none}
+use Rattle.board.specs.Private.Remembered.{lentHolds}
+use Rattle.board.proofs.Laws.Holds.Remembered.{remembered-none}
 use Rattle.board.proofs.holding.holds_in.Statement.{statement}
 use Rattle.board.proofs.holding.holds_in.Tie as tie
 

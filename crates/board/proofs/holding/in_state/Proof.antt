@@ -7,8 +7,8 @@ use borrow.Author.Count.{below-more}
 use lib.ListN.{length, getD}
 use lib.Dec.{eqb, eqb→eq, eqb-refl}
 use denote.Ref.{now}
-use Rattle.board.specs.Lists.{among}
-use Rattle.board.specs.Lists.Places.{any-here, any-nowhere}
+use Rattle.sets.specs.Lists.{among}
+use Rattle.sets.proofs.Laws.Lists.Places.{any-here, any-nowhere}
 use Rattle.board.specs.Holds.{inState}
 use Rattle.board.proofs.holding.in_state.Statement.{statement}
 use Rattle.board.proofs.holding.in_state.Tie as tie

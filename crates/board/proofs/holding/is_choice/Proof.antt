@@ -7,7 +7,7 @@ use borrow.Author.Count.{below-none, below-more}
 use lib.ListN.{getD}
 use mathlib.Core.Logic.{⊎-elim}
 use denote.Ref.{now}
-use Rattle.board.specs.Lent.Choices.{choice-here, choice-nowhere}
+use Rattle.board.proofs.Laws.Lent.Choices.{choice-here, choice-nowhere}
 use Rattle.board.proofs.holding.is_choice.Statement.{statement}
 use Rattle.board.proofs.holding.is_choice.Tie as tie
 

@@ -10,9 +10,9 @@ use borrow.Author.Count.{below-none, below-more}
 use lib.ListN.{length, getD}
 use denote.Ref.{now}
 use Rattle.board.specs.Board.{declaration, isAtomOf}
-use Rattle.board.specs.Board.States.{is-state, no-state-length, no-state-at}
+use Rattle.board.proofs.Laws.Board.States.{is-state, no-state-length, no-state-at}
 use Rattle.board.specs.Table.{hypothesesIn}
-use Rattle.board.specs.Holds.Remembered.{hypothesesAlone}
+use Rattle.board.specs.Private.Remembered.{hypothesesAlone}
 use Rattle.board.proofs.holding.is_state.Statement.{statement}
 use Rattle.board.proofs.holding.is_state.Tie as tie
 

@@ -5,15 +5,15 @@ use mathlib.Core.Bool.{Bool, true, false}
 use Prim.Native.Nat.{_≤_}
 use denote.Ref.{now}
 use borrow.Author.Tests.{not-true, not-false, le-leb, lt-leb}
-use Rattle.board.specs.Tests.{T-of-true}
+use Rattle.sets.proofs.Laws.Tests.{T-of-true}
 use Rattle.board.specs.Answers.{granted}
 use Rattle.board.specs.Board.{declarations, isStateOf}
 use Rattle.board.specs.Holds.{holds, inState}
-use Rattle.board.specs.Holds.Remembered.Tables.{table-sound}
+use Rattle.board.proofs.Laws.Holds.Remembered.Tables.{table-sound}
 use Rattle.board.specs.Table.{boardOf, isTable}
-use Rattle.board.specs.Table.Fields.{Sized}
-use Rattle.board.specs.Table.Fields.Laws.{isTable-fields, isTable-stands}
-use Rattle.board.specs.Table.Fields.Parts.{sizes-parts}
+use Rattle.board.specs.Private.Fields.{Sized}
+use Rattle.board.proofs.Laws.Table.Fields.{isTable-fields, isTable-stands}
+use Rattle.board.proofs.Laws.Table.Fields.Parts.{sizes-parts}
 use Rattle.board.specs.EntryPoints.{toldMeans, yesOrNo}
 use borrow.Author.Needs.{needs}
 use Rattle.board.proofs.holding.yes_or_no.Statement.{statement}

@@ -13,21 +13,21 @@ use lib.ListN.{length}
 use denote.Ref.{now}
 use Rattle.board.specs.Answers.{accepted, refusedAt}
 use Rattle.board.specs.Board.{declarationsIn}
-use Rattle.board.specs.Board.Laws.{declarationsIn-snoc}
+use Rattle.board.proofs.Laws.Board.{declarationsIn-snoc}
 use Rattle.board.specs.File.{Record, Found, count, hypothesis, rule, lowBytes, readRecord}
-use Rattle.board.specs.File.Bytes.{areBytes-of}
+use Rattle.board.proofs.Laws.File.Bytes.{areBytes-of}
 use Rattle.board.specs.Load.{misplacedAt, filledFirst, firstFailing, fieldChecks, taking, isFinish}
-use Rattle.board.specs.Load.Checks.{hypothesis-declaration, rule-filledFirst}
-use Rattle.board.specs.Load.Loaded.{taken-in}
-use Rattle.board.specs.Load.Progress.{Progress, progress-start, misplacedAt-there, misplacedAt-past, ends-misplaced, ends-unread, ends-failing, ends-followed, ends-accepted, goes-further, next-here, goes-on}
-use Rattle.board.specs.Load.Room.{room-after-hypothesis, room-after-rule}
+use Rattle.board.proofs.Laws.Load.Checks.{hypothesis-declaration, rule-filledFirst}
+use Rattle.board.proofs.Laws.Load.Loaded.{taken-in}
+use Rattle.board.proofs.Laws.Load.Progress.{Progress, progress-start, misplacedAt-there, misplacedAt-past, ends-misplaced, ends-unread, ends-failing, ends-followed, ends-accepted, goes-further, next-here, goes-on}
+use Rattle.board.proofs.Laws.Load.Room.{room-after-hypothesis, room-after-rule}
 use Rattle.board.specs.Table.{tableOf}
-use Rattle.board.specs.Table.Arrays.{boardIn-tableOf}
-use Rattle.board.specs.Table.Declared.{begun-rules, declared-tableOf}
-use Rattle.board.specs.Table.Passes.{soFar}
-use Rattle.board.specs.Table.Taking.{tableOf-count, tableOf-hypothesis, tableOf-rule}
+use Rattle.board.proofs.Laws.Table.Arrays.{boardIn-tableOf}
+use Rattle.board.proofs.Laws.Table.Declared.{begun-rules, declared-tableOf}
+use Rattle.board.specs.Private.Passes.{soFar}
+use Rattle.board.proofs.Laws.Table.Taking.{tableOf-count, tableOf-hypothesis, tableOf-rule}
 use Rattle.board.specs.EntryPoints.{recordMeans, readMeans}
-use Rattle.board.specs.EntryPoints.Laws.{refuses-loads, accepts-loads}
+use Rattle.board.proofs.Laws.EntryPoints.{refuses-loads, accepts-loads}
 use Rattle.board.specs.declared.Table.{Table}
 use Rattle.board.proofs.load.load.Statement.{statement}
 use Rattle.board.proofs.load.load.Tie as tie

@@ -8,7 +8,7 @@ use lib.ListN.{length}
 use lib.Dec.{ltb}
 use borrow.Author.Needs.{needs}
 use borrow.Author.Tests.{not-true, not-false, le-ltb, lt-ltb, eq-eqb, ne-eqb}
-use Rattle.board.specs.Lists.{isEmpty}
+use Rattle.sets.specs.Lists.{isEmpty}
 use Rattle.board.specs.Board.{Rule}
 use Rattle.board.specs.File.{knownKind}
 use Rattle.board.specs.Load.{misplaced}

@@ -4,12 +4,12 @@ use native.Mathlib.Numerals.{add-one}
 use mathlib.Core.Path.{_≡_, _∙_}
 use mathlib.Core.Logic.{⊎-elim}
 use mathlib.Core.Bool.{_&&_}
-use Rattle.board.specs.Lists.{ascending}
+use Rattle.sets.specs.Lists.{ascending}
 use Rattle.board.specs.Sizes.{mostBody}
 use Rattle.board.specs.File.{lowBytes}
-use Rattle.board.specs.File.Laws.{lowBytes-pop}
+use Rattle.board.proofs.Laws.File.{lowBytes-pop}
 use Rattle.board.specs.Load.{filled, filledFirst}
-use Rattle.board.specs.Load.Places.{climbs, climbs-means, climbs-low, climbs-on, climbs-empty}
+use Rattle.board.proofs.Laws.Load.Places.{climbs, climbs-means, climbs-low, climbs-on, climbs-empty}
 use Rattle.board.proofs.places.ascend.Statement.{statement}
 use Rattle.board.proofs.places.ascend.Tie as tie
 

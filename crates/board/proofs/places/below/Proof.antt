@@ -4,12 +4,12 @@ use native.Mathlib.Omega.{arith}
 use mathlib.Core.Path.{_≡_, refl, _∙_}
 use mathlib.Core.Logic.{⊎-elim}
 use lib.Dec.{leb}
-use Rattle.board.specs.Lists.{any, keep}
+use Rattle.sets.specs.Lists.{any, keep}
 use Rattle.board.specs.Sizes.{mostBody}
 use Rattle.board.specs.File.{lowBytes}
-use Rattle.board.specs.File.Laws.{lowBytes-pop}
+use Rattle.board.proofs.Laws.File.{lowBytes-pop}
 use Rattle.board.specs.Load.{filled}
-use Rattle.board.specs.Load.Places.{reach-empty, reach-low, reach-high}
+use Rattle.board.proofs.Laws.Load.Places.{reach-empty, reach-low, reach-high}
 use Rattle.board.proofs.places.below.Statement.{statement}
 use Rattle.board.proofs.places.below.Tie as tie
 

@@ -9,7 +9,7 @@ use lib.ListN.{length, length-set}
 use lib.Seq.{sets, sets-eq}
 use Rattle.board.specs.Sizes.{mostBody}
 use Rattle.board.specs.File.{lowBytes}
-use Rattle.board.specs.File.Laws.{lowBytes-pop}
+use Rattle.board.proofs.Laws.File.{lowBytes-pop}
 use Rattle.board.proofs.places.store.Statement.{statement}
 use Rattle.board.proofs.places.store.Tie as tie
 

@@ -10,7 +10,7 @@ use denote.Ref.{now}
 use lib.Arith.{digits-lt}
 use lib.Pow.{pow-mono, pow-add}
 use Rattle.board.specs.File.{lowBytes}
-use Rattle.board.specs.File.Laws.{lowBytes-push, take-drop-cons}
+use Rattle.board.proofs.Laws.File.{lowBytes-push, take-drop-cons}
 use Rattle.board.proofs.record.eight_bytes.Statement.{statement}
 use Rattle.board.proofs.record.eight_bytes.Tie as tie
 

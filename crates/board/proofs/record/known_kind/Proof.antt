@@ -2,7 +2,7 @@
 use mathlib.Core.Path.{sym}
 use borrow.Author.Tests.{le-leb}
 use Rattle.board.specs.File.{knownKind}
-use Rattle.board.specs.File.Laws.{unknown-low}
+use Rattle.board.proofs.Laws.File.{unknown-low}
 use Rattle.board.proofs.record.known_kind.Statement.{statement}
 use Rattle.board.proofs.record.known_kind.Tie as tie
 

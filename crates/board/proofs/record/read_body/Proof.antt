@@ -2,7 +2,7 @@
 use native.Mathlib.Omega.{arith}
 use borrow.Author.Tests.{ne-eqb}
 use Rattle.board.specs.File.{recordOf}
-use Rattle.board.specs.File.Laws.{bodyBytes-count, bodyBytes-hypothesis, bodyBytes-rule}
+use Rattle.board.proofs.Laws.File.{bodyBytes-count, bodyBytes-hypothesis, bodyBytes-rule}
 use Rattle.board.specs.EntryPoints.{recordMeans}
 use borrow.Author.Needs.{needs}
 use Rattle.board.proofs.record.read_body.Statement.{statement}

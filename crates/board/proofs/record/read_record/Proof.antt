@@ -5,7 +5,7 @@ use mathlib.Core.Bool.{true}
 use lib.ListN.{getD}
 use denote.Ref.{now}
 use Rattle.board.specs.File.{knownKind, nextPlace}
-use Rattle.board.specs.File.Laws.{bodyBytes-le, read-past, read-unknown, read-short, read-whole}
+use Rattle.board.proofs.Laws.File.{bodyBytes-le, read-past, read-unknown, read-short, read-whole}
 use Rattle.board.specs.EntryPoints.{readMeans}
 use borrow.Author.Needs.{needs}
 use borrow.Author.Tests.{not-true, not-false}

@@ -1,0 +1,9 @@
+pub mod Accepted
+pub mod Board
+pub mod EntryPoints
+pub mod Facts
+pub mod File
+pub mod Holds
+pub mod Lent
+pub mod Load
+pub mod Table
