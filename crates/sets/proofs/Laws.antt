@@ -1,3 +1,5 @@
+pub mod Dictionary
 pub mod Lists
+pub mod Masks
 pub mod Sets
 pub mod Tests

@@ -1,2 +1,4 @@
 pub mod Lists
 pub mod Sets
+pub mod Masks
+pub mod Dictionary

@@ -1,7 +1,7 @@
 -- Functions on lists that go by a test (a function into Bool), which the toolchain's libraries do not have, and two sums.
 -- Nothing here is of document 01. Assumes nothing.
 use Prim.Native.Nat.{ℕ, zero, suc, _+_, _*_, _-_}
-use mathlib.Core.Bool.{Bool, true, false, _&&_, _||_, cond}
+use mathlib.Core.Bool.{Bool, true, false, not, _&&_, _||_, cond}
 use mathlib.Core.List.{List, [], _∷_, _++_}
 use lib.ListN.{length, drop, replicate}
 use lib.Dec.{ltb, eqb}
@@ -22,6 +22,7 @@ module _ {ℓ} {A : Type ℓ} where
   keep p [] = []
   keep p (x ∷ xs) = cond (p x) (x ∷ keep p xs) (keep p xs)
 
+  -- there is no element
   unfoldable pub isEmpty : List A → Bool
   isEmpty [] = true
   isEmpty (x ∷ xs) = false
@@ -30,10 +31,12 @@ module _ {ℓ} {A : Type ℓ} where
   unfoldable pub pad : ℕ → A → List A → List A
   pad n a xs = xs ++ replicate (n - length xs) a
 
+-- all of them added up; 0 where there is none
 unfoldable pub sum : List ℕ → ℕ
 sum [] = 0
 sum (x ∷ xs) = x + sum xs
 
+-- all of them multiplied; 1 where there is none
 unfoldable pub product : List ℕ → ℕ
 product [] = 1
 product (x ∷ xs) = x * product xs
@@ -53,8 +56,13 @@ belowDown zero = []
 belowDown (suc n) = n ∷ belowDown n
 
 -- x is among them
-unfoldable pub among : ℕ → List ℕ → Bool
-among x xs = any (eqb x) xs
+unfoldable pub among : List ℕ → ℕ → Bool
+among xs x = any (λ y. eqb y x) xs
+
+-- no number stands twice
+unfoldable pub distinct : List ℕ → Bool
+distinct [] = true
+distinct (x ∷ rest) = not (among rest x) && distinct rest
 
 -- each is less than the next
 unfoldable pub ascending : List ℕ → Bool
@@ -69,6 +77,6 @@ sameNumbers [] (y ∷ ys) = false
 sameNumbers (x ∷ xs) [] = false
 sameNumbers (x ∷ xs) (y ∷ ys) = eqb x y && sameNumbers xs ys
 
--- nothing but zeros from place n on
+-- nothing but zeros from index n on
 unfoldable pub zeroFrom : ℕ → List ℕ → Bool
 zeroFrom n xs = all (eqb 0) (drop n xs)

@@ -1,15 +1,17 @@
 -- Laws of the functions on lists that go by a test: `any`, `all`, `keep`, `isEmpty`, `among` and `sameNumbers`, in terms of the elements of the
 -- list. `List·Memᴰ x xs` says that x is an element of xs. Assumes nothing.
 pub mod Ascending
+pub mod Distinct
 pub mod Ends
 pub mod Flatten
+pub mod Indices
 pub mod Padding
-pub mod Places
-use mathlib.Core.Path.{_≡_, refl, sym, ap, ap₂, subst}
+pub mod Products
+use mathlib.Core.Path.{_≡_, refl, sym, ap, ap₂, _∙_}
 use mathlib.Core.Bool.{Bool, true, false, _&&_, _||_, cond, false≢true}
 use mathlib.Core.List.{List, [], _∷_, map, List·Memᴰ, List·Memᴰ·head, List·Memᴰ·tail, List·Memᴰ·not-nil}
 use mathlib.Core.Logic.{_⊎_, inl, inr}
-use Prim.Native.Nat.{ℕ, suc, _≤_}
+use Prim.Native.Nat.{ℕ, _≤_}
 use native.Mathlib.Omega.{arith}
 use lib.Dec.{T, eqb, eqb→eq, eqb-refl}
 use lib.ListN.{length}
@@ -131,21 +133,35 @@ module _ {ℓ} {A : Type ℓ} where
   keep-none p [] h = refl
   keep-none p (x ∷ xs) h = simp (or-false-left (p x) _ h, keep-none p xs (or-false-right (p x) _ h))
 
-  -- what all pass, those that are kept pass
-  pub all-keep : (p q : A → Bool) (xs : List A) → T (all p xs) → T (all p (keep q xs))
-  all-keep p q xs h = all-of p (keep q xs) (λ x m. all-at p h (keep-at q xs m .0))
+  -- the elements that pass two tests
+  pub keep-keep : (p q : A → Bool) (xs : List A) → keep p (keep q xs) ≡ keep (λ x. q x && p x) xs
+  unfolding keep
+  keep-keep p q [] = refl
+  keep-keep p q (x ∷ xs) = go (q x) (keep-keep p q xs)
+    where
+      go : (t : Bool) → keep p (keep q xs) ≡ keep (λ x. q x && p x) xs
+          → keep p (cond t (x ∷ keep q xs) (keep q xs)) ≡ cond (t && p x) (x ∷ keep (λ x. q x && p x) xs) (keep (λ x. q x && p x) xs)
+      go true e = ap (λ ks. cond (p x) (x ∷ ks) ks) e
+      go false e = e
+
+  -- where every element that passes p passes q, no more are kept by p
+  pub keep-fewer : (p q : A → Bool) (xs : List A) → ((x : A) → List·Memᴰ x xs → T (p x) → T (q x)) → length (keep p xs) ≤ length (keep q xs)
+  unfolding keep
+  keep-fewer p q [] f = omega arith
+  keep-fewer p q (x ∷ xs) f = go (p x) (q x) (f x (List·Memᴰ·head refl)) (keep-fewer p q xs (λ y m. f y (List·Memᴰ·tail m)))
+    where
+      go : (s t : Bool) → (T s → T t) → length (keep p xs) ≤ length (keep q xs)
+          → length (cond s (x ∷ keep p xs) (keep p xs)) ≤ length (cond t (x ∷ keep q xs) (keep q xs))
+      go true true f l = omega arith
+      go true false f l = absurd (f tt)
+      go false true f l = omega arith
+      go false false f l = l
 
   -- no more are kept than there are
   pub keep-shorter : (p : A → Bool) (xs : List A) → length (keep p xs) ≤ length xs
-  unfolding keep
-  keep-shorter p [] = omega arith
-  keep-shorter p (x ∷ xs) = step (p x) (keep-shorter p xs)
-    where
-      step : (b : Bool) → length (keep p xs) ≤ length xs → length (cond b (x ∷ keep p xs) (keep p xs)) ≤ suc (length xs)
-      step true h = omega arith
-      step false h = omega arith
+  keep-shorter p xs = rw (keep-all (λ (x : A). true) xs (all-of _ xs (λ x m. tt))) at (keep-fewer p (λ x. true) xs (λ x m t. tt))
 
-  -- ---- the empty list
+  -- ---- short lists
 
   -- an empty list is the list of nothing
   pub empty-nil : (xs : List A) → isEmpty xs ≡ true → xs ≡ []
@@ -153,9 +169,22 @@ module _ {ℓ} {A : Type ℓ} where
   empty-nil [] h = refl
   empty-nil (x ∷ xs) h = absurd (false≢true h)
 
+  -- of a list of one at most, two elements are equal
+  pub short-equal : (xs : List A) → length xs ≤ 1 → {x y : A} → List·Memᴰ x xs → List·Memᴰ y xs → x ≡ y
+  short-equal [] l m n = absurd (List·Memᴰ·not-nil m)
+  short-equal (z ∷ []) l (List·Memᴰ·head e) (List·Memᴰ·head f) = e ∙ sym f
+  short-equal (z ∷ []) l (List·Memᴰ·head e) (List·Memᴰ·tail n) = absurd (List·Memᴰ·not-nil n)
+  short-equal (z ∷ []) l (List·Memᴰ·tail m) n = absurd (List·Memᴰ·not-nil m)
+  short-equal (z ∷ w ∷ xs) l m n = absurd (omega arith)
+
 -- ---- mapped lists
 
 module _ {ℓ κ} {A : Type ℓ} {B : Type κ} where
+  -- functions that agree on the elements give the same list
+  pub map-cong : {f g : A → B} (xs : List A) → ((x : A) → List·Memᴰ x xs → f x ≡ g x) → map f xs ≡ map g xs
+  map-cong [] h = refl
+  map-cong (x ∷ xs) h = ap₂ {C = List B} (λ y ys. y ∷ ys) (h x (List·Memᴰ·head refl)) (map-cong xs (λ y m. h y (List·Memᴰ·tail m)))
+
   -- all of a mapped list pass exactly if all pass after the map
   pub all-map : (p : B → Bool) (f : A → B) (xs : List A) → all p (map f xs) ≡ all (λ x. p (f x)) xs
   unfolding all
@@ -171,14 +200,14 @@ module _ {ℓ κ} {A : Type ℓ} {B : Type κ} where
 -- ---- numbers among others
 
 -- a number of the list is among them
-pub among-of : {x : ℕ} {xs : List ℕ} → List·Memᴰ x xs → T (among x xs)
+pub among-of : {x : ℕ} {xs : List ℕ} → List·Memᴰ x xs → T (among xs x)
 unfolding among
-among-of {x} m = any-of (eqb x) m (eqb-refl x)
+among-of {x} m = any-of (λ y. eqb y x) m (eqb-refl x)
 
 -- a number among them is of the list
-pub among-at : (x : ℕ) (xs : List ℕ) → T (among x xs) → List·Memᴰ x xs
+pub among-at : (xs : List ℕ) (x : ℕ) → T (among xs x) → List·Memᴰ x xs
 unfolding among
-among-at x xs h = let t = any-find (eqb x) xs h in subst (λ (y : ℕ). List·Memᴰ y xs) (sym (eqb→eq x (t .0) (t .2))) (t .1)
+among-at xs x h = let (y, m, e) = any-find (λ y. eqb y x) xs h in rw (eqb→eq y x e) at m
 
 -- ---- the same numbers
 

@@ -2,17 +2,20 @@
 -- what `subset` says of the members, and the equations of `union`, `with` and `without`. Nothing here looks at a digit (`Digits` does).
 -- Assumes nothing.
 pub mod Bounds
+pub mod Counts
 pub mod Digits
 pub mod Highest
 pub mod Members
 use Prim.Native.Nat.{ℕ, _^_}
 use mathlib.Core.Path.{_≡_, refl, sym, ap, _∙_, subst}
 use mathlib.Core.Bool.{Bool, true, false, _&&_, _||_, not, and-true, and-false, or-comm, or-assoc, or-false}
-use mathlib.Core.List.{List, [], _∷_}
+use mathlib.Core.List.{List, [], _∷_, _++_}
 use mathlib.Core.Logic.{_⊎_, ⊎-elim}
+use native.Mathlib.Decide.{ℕ-discrete}
 use lib.Dec.{T, eqb, eqb→eq}
-use borrow.Author.Tests.{eqb-true, eqb-false, eq-eqb, ne-eqb}
+use borrow.Author.Tests.{eq-eqb, ne-eqb}
 use Rattle.sets.specs.Lists.{any, among}
+use Rattle.sets.proofs.Laws.Lists.Ends.{any-snoc}
 use Rattle.sets.proofs.Laws.Tests.{T-of-true, true-of-T, T-ext, or-left, or-right, or-cases, and-left}
 use Rattle.sets.specs.Sets.{member, union, with, without, setOf, subset}
 pub use Rattle.sets.proofs.Laws.Sets.Digits.{member-empty, member-union, member-single, member-without, set-ext}
@@ -32,7 +35,7 @@ pub union-cases : (a s t : ℕ) → T (member a (union s t)) → T (member a s) 
 union-cases a s t h = or-cases (member a s) (member a t) (subst T (member-union a s t) h)
 
 -- an atom is in s and b exactly if it is in s or is b
-pub member-with : (a b s : ℕ) → member a (with b s) ≡ (member a s || eqb a b)
+pub member-with : (a b s : ℕ) → member a (with b s) ≡ (member a s || eqb b a)
 unfolding with
 member-with a b s = member-union a s (2 ^ b) ∙ ap (_||_ (member a s)) (member-single a b)
 
@@ -42,29 +45,39 @@ with-same a s = subst T (sym (member-with a a s)) (or-right (member a s) (eqb a 
 
 -- an atom of s is in s and b
 pub with-left : (a b s : ℕ) → T (member a s) → T (member a (with b s))
-with-left a b s h = subst T (sym (member-with a b s)) (or-left (member a s) (eqb a b) h)
+with-left a b s h = subst T (sym (member-with a b s)) (or-left (member a s) (eqb b a) h)
+
+-- another atom than b is in s and b exactly if it is in s
+pub with-other : (a b s : ℕ) → (b ≡ a → ⊥) → member a (with b s) ≡ member a s
+with-other a b s h = member-with a b s ∙ ap (_||_ (member a s)) (ne-eqb b a h) ∙ or-false (member a s)
 
 -- an atom of s and b is in s or is b
-pub with-cases : (a b s : ℕ) → T (member a (with b s)) → T (member a s) ⊎ T (eqb a b)
-with-cases a b s h = or-cases (member a s) (eqb a b) (subst T (member-with a b s) h)
+pub with-cases : (a b s : ℕ) → T (member a (with b s)) → T (member a s) ⊎ T (eqb b a)
+with-cases a b s h = or-cases (member a s) (eqb b a) (subst T (member-with a b s) h)
 
 -- a is not in s less a
 pub without-same : (a s : ℕ) → member a (without a s) ≡ false
 without-same a s = member-without a a s ∙ ap (λ (t : Bool). member a s && not t) (eq-eqb a a refl) ∙ and-false (member a s)
 
 -- an atom of s that is not b is in s less b
-pub without-other : (a b s : ℕ) → (a ≡ b → ⊥) → member a (without b s) ≡ member a s
-without-other a b s h = member-without a b s ∙ ap (λ (t : Bool). member a s && not t) (ne-eqb a b h) ∙ and-true (member a s)
+pub without-other : (a b s : ℕ) → (b ≡ a → ⊥) → member a (without b s) ≡ member a s
+without-other a b s h = member-without a b s ∙ ap (λ (t : Bool). member a s && not t) (ne-eqb b a h) ∙ and-true (member a s)
 
 -- an atom of s less b is in s
 pub without-left : (a b s : ℕ) → T (member a (without b s)) → T (member a s)
-without-left a b s h = and-left (member a s) (not (eqb a b)) (subst T (member-without a b s) h)
+without-left a b s h = and-left (member a s) (not (eqb b a)) (subst T (member-without a b s) h)
 
 -- an atom is in the set of the atoms listed exactly if it is among them
-pub member-setOf : (a : ℕ) (xs : List ℕ) → member a (setOf xs) ≡ among a xs
+pub member-setOf : (a : ℕ) (xs : List ℕ) → member a (setOf xs) ≡ among xs a
 unfolding setOf among any
 member-setOf a [] = member-empty a
-member-setOf a (x ∷ xs) = member-with a x (setOf xs) ∙ or-comm (member a (setOf xs)) (eqb a x) ∙ ap (_||_ (eqb a x)) (member-setOf a xs)
+member-setOf a (x ∷ xs) = member-with a x (setOf xs) ∙ or-comm (member a (setOf xs)) (eqb x a) ∙ ap (_||_ (eqb x a)) (member-setOf a xs)
+
+-- the set of the atoms listed, with one more at the end
+pub setOf-snoc : (a : ℕ) (xs : List ℕ) → setOf (xs ++ (a ∷ [])) ≡ with a (setOf xs)
+unfolding among
+setOf-snoc a xs =
+    set-ext (λ b. member-setOf b (xs ++ (a ∷ [])) ∙ any-snoc (λ y. eqb y b) xs a ∙ ap (λ (t : Bool). t || eqb a b) (sym (member-setOf b xs)) ∙ sym (member-with b a (setOf xs)))
 
 -- ---- subsets
 
@@ -146,38 +159,27 @@ pub with-empty : (a : ℕ) → with a 0 ≡ 2 ^ a
 unfolding with
 with-empty a = union-subset 0 (2 ^ a) (subset-empty (2 ^ a))
 
+-- sets that agree on one atom and on all others are equal
+set-ext-at : (a s t : ℕ) → member a s ≡ member a t → ((b : ℕ) → (a ≡ b → ⊥) → member b s ≡ member b t) → s ≡ t
+set-ext-at a s t here other = set-ext (λ b. go b (ℕ-discrete a b))
+  where
+    go : (b : ℕ) → Dec (a ≡ b) → member b s ≡ member b t
+    go b (yes e) = rw e at here
+    go b (no f) = other b f
+
 -- a member more changes nothing
 pub with-member : (a s : ℕ) → T (member a s) → with a s ≡ s
-with-member a s h =
-    set-ext (λ b. member-with b a s ∙ or-comm (member b s) (eqb b a)
-    ∙ stronger (eqb b a) (member b s) (λ e. subst (λ (x : ℕ). T (member x s)) (sym (eqb→eq b a e)) h))
+with-member a s h = set-ext-at a _ _ (true-of-T _ (with-same a s) ∙ sym (true-of-T _ h)) (λ b. with-other b a s)
 
 -- an atom less that is no member changes nothing
 pub without-not-member : (a s : ℕ) → member a s ≡ false → without a s ≡ s
-without-not-member a s h = set-ext (λ b. go b (eqb b a) refl)
-  where
-    go : (b : ℕ) (t : Bool) → eqb b a ≡ t → member b (without a s) ≡ member b s
-    go b true e = let q : b ≡ a = eqb-true b a e in ap (λ (x : ℕ). member x (without a s)) q ∙ without-same a s ∙ sym h ∙ ap (λ (x : ℕ). member x s) (sym q)
-    go b false e = without-other b a s (eqb-false b a e)
+without-not-member a s h = set-ext-at a _ _ (without-same a s ∙ sym h) (λ b. without-other b a s)
 
 -- a member less, and the same atom more
 pub with-without : (a s : ℕ) → T (member a s) → with a (without a s) ≡ s
-with-without a s h = set-ext (λ b. go b (eqb b a) refl)
-  where
-    go : (b : ℕ) (t : Bool) → eqb b a ≡ t → member b (with a (without a s)) ≡ member b s
-    go b true e =
-        let q : b ≡ a = eqb-true b a e in
-        ap (λ (x : ℕ). member x (with a (without a s))) q ∙ true-of-T (member a (with a (without a s))) (with-same a (without a s))
-        ∙ sym (true-of-T (member a s) h) ∙ ap (λ (x : ℕ). member x s) (sym q)
-    go b false e =
-        member-with b a (without a s) ∙ ap (_||_ (member b (without a s))) e ∙ or-false (member b (without a s)) ∙ without-other b a s (eqb-false b a e)
+with-without a s h =
+    set-ext-at a _ _ (true-of-T _ (with-same a (without a s)) ∙ sym (true-of-T _ h)) (λ b f. with-other b a (without a s) f ∙ without-other b a s f)
 
 -- an atom more that was no member, and the same atom less
 pub without-with : (a s : ℕ) → member a s ≡ false → without a (with a s) ≡ s
-without-with a s h = set-ext (λ b. go b (eqb b a) refl)
-  where
-    go : (b : ℕ) (t : Bool) → eqb b a ≡ t → member b (without a (with a s)) ≡ member b s
-    go b true e =
-        let q : b ≡ a = eqb-true b a e in
-        ap (λ (x : ℕ). member x (without a (with a s))) q ∙ without-same a (with a s) ∙ sym h ∙ ap (λ (x : ℕ). member x s) (sym q)
-    go b false e = without-other b a (with a s) (eqb-false b a e) ∙ member-with b a s ∙ ap (_||_ (member b s)) e ∙ or-false (member b s)
+without-with a s h = set-ext-at a _ _ (without-same a (with a s) ∙ sym h) (λ b f. without-other b a (with a s) f ∙ with-other b a s f)

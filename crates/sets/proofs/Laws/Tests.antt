@@ -1,10 +1,10 @@
 -- Laws of tests: what it is for a test to pass, of the tests' `&&` and `||`, and of `eqb`. `T b` says that b passes. Assumes nothing.
-use mathlib.Core.Path.{_≡_, refl, sym, subst}
+use mathlib.Core.Path.{_≡_, refl, sym, ap, _∙_, subst}
+use Prim.Native.Nat.{ℕ}
 use mathlib.Core.Bool.{Bool, true, false, _&&_, _||_, true≢false}
 use mathlib.Core.Logic.{_⊎_, inl, inr}
-use Prim.Native.Nat.{ℕ}
-use lib.Dec.{T, eqb}
-use borrow.Author.Tests.{eqb-true, eqb-false, eq-eqb, ne-eqb}
+use lib.Dec.{T, eqb, eqb→eq}
+use borrow.Author.Tests.{eq-eqb}
 
 -- ---- one test
 
@@ -27,13 +27,9 @@ pub T-ext : (a b : Bool) → (T a → T b) → (T b → T a) → a ≡ b
 T-ext true b f g = sym (true-of-T b (f tt))
 T-ext false b f g = sym (false-of-T b g)
 
--- the test for equality does not mind the order
-pub eqb-swap : (m n : ℕ) → eqb m n ≡ eqb n m
-eqb-swap m n = go (eqb n m) refl
-  where
-    go : (t : Bool) → eqb n m ≡ t → eqb m n ≡ t
-    go true e = eq-eqb m n (sym (eqb-true n m e))
-    go false e = ne-eqb m n (λ q. eqb-false n m e (sym q))
+-- tests for equality of numbers that are equal together are the same
+pub eqb-ext : (a b c d : ℕ) → (a ≡ b → c ≡ d) → (c ≡ d → a ≡ b) → eqb a b ≡ eqb c d
+eqb-ext a b c d f g = T-ext (eqb a b) (eqb c d) (λ h. T-of-true (eq-eqb c d (f (eqb→eq a b h)))) (λ h. T-of-true (eq-eqb a b (g (eqb→eq c d h))))
 
 -- ---- tests that all pass
 
@@ -56,6 +52,14 @@ and-right false b h = absurd h
 pub and-cong-right : (a : Bool) {b c : Bool} → (T a → b ≡ c) → (a && b) ≡ (a && c)
 and-cong-right true h = h tt
 and-cong-right false h = refl
+
+-- what code makes of `p && q`: where the first test passes, it is the second ..
+pub and-then : {p q f : Bool} → p ≡ true → f ≡ q → f ≡ (p && q)
+and-then {q = q} e h = h ∙ sym (ap (λ (p : Bool). p && q) e)
+
+-- .. and else the first
+pub and-else : {p f : Bool} (q : Bool) → p ≡ false → f ≡ p → f ≡ (p && q)
+and-else q e h = h ∙ e ∙ sym (ap (λ (p : Bool). p && q) e)
 
 -- the order of two tests before a third does not matter
 pub and-swap : (a b c : Bool) → (a && (b && c)) ≡ (b && (a && c))
@@ -88,16 +92,6 @@ pub five-and : (p q r s t : Bool) → T (p && q && r && s && t) → T p × T q �
 five-and p q r s t h =
     let k = four-and p q r s (and-left (p && q && r && s) t h) in
     (k .0, k .1, k .2, k .3, and-right (p && q && r && s) t h)
-
--- six tests that pass, joined
-pub and-six : (p q r s t u : Bool) → T p × T q × T r × T s × T t × T u → T (p && q && r && s && t && u)
-and-six p q r s t u h = and-both (p && q && r && s && t) u (and-five p q r s t (h .0, h .1, h .2, h .3, h .4)) (h .5)
-
--- six tests joined that pass, each by itself
-pub six-and : (p q r s t u : Bool) → T (p && q && r && s && t && u) → T p × T q × T r × T s × T t × T u
-six-and p q r s t u h =
-    let k = five-and p q r s t (and-left (p && q && r && s && t) u h) in
-    (k .0, k .1, k .2, k .3, k .4, and-right (p && q && r && s && t) u h)
 
 -- ---- tests of which one passes
 

@@ -2,13 +2,12 @@
 -- at the end. Assumes nothing.
 use mathlib.Core.Path.{_≡_, refl, sym, ap, _∙_}
 use Prim.Native.Nat.{ℕ, zero, suc, _+_, _*_}
-use native.Mathlib.Nat.{mul-assoc, one-mul, mul-one}
+use native.Mathlib.Nat.{mul-assoc, one-mul, mul-one, zero-add, add-zero, suc-add}
+use native.Mathlib.Numerals.{add-one}
 use native.Mathlib.Omega.{arith}
 use mathlib.Core.Bool.{Bool, true, false, _&&_, _||_, cond, and-assoc, or-assoc, or-false}
 use mathlib.Core.List.{List, [], _∷_, _++_, map, map-append, append-nil}
-use lib.Dec.{T}
 use Rattle.sets.specs.Lists.{any, all, keep, sum, product, numbersFrom, below}
-use Rattle.sets.proofs.Laws.Tests.{and-both}
 
 module _ {ℓ} {A : Type ℓ} where
   -- all of two lists in a row pass exactly if all of each do
@@ -16,11 +15,6 @@ module _ {ℓ} {A : Type ℓ} where
   unfolding all
   all-append p [] ys = refl
   all-append p (x ∷ xs) ys = rw (all-append p xs ys) (sym (and-assoc (p x) (all p xs) (all p ys)))
-
-  -- one element more that passes: all still do
-  pub all-snoc : (p : A → Bool) (xs : List A) (x : A) → T (all p xs) → T (p x) → T (all p (xs ++ (x ∷ [])))
-  unfolding all
-  all-snoc p xs x h k = rw (all-append p xs (x ∷ [])) (and-both (all p xs) _ h (and-both (p x) true k tt))
 
   -- some of two lists in a row pass exactly if some of one do
   pub any-append : (p : A → Bool) (xs ys : List A) → any p (xs ++ ys) ≡ (any p xs || any p ys)
@@ -60,24 +54,27 @@ unfolding sum
 sum-snoc [] x = omega arith
 sum-snoc (y ∷ ys) x = omega (arith, sum-snoc ys x)
 
+-- the product of two lists in a row
+pub product-append : (xs ys : List ℕ) → product (xs ++ ys) ≡ product xs * product ys
+unfolding product
+product-append [] ys = sym (one-mul (product ys))
+product-append (x ∷ xs) ys = ap (_*_ x) (product-append xs ys) ∙ sym (mul-assoc x (product xs) (product ys))
+
 -- the product with one factor more
 pub product-snoc : (xs : List ℕ) (x : ℕ) → product (xs ++ (x ∷ [])) ≡ product xs * x
 unfolding product
-product-snoc [] x = mul-one x ∙ sym (one-mul x)
-product-snoc (y ∷ ys) x = ap (_*_ y) (product-snoc ys x) ∙ sym (mul-assoc y (product ys) x)
+product-snoc xs x = product-append xs (x ∷ []) ∙ ap (_*_ (product xs)) (mul-one x)
 
--- one number more from a on
-numbersFrom-snoc : (a n : ℕ) → numbersFrom a (suc n) ≡ numbersFrom a n ++ ((a + n) ∷ [])
+-- numbers from a on, and those after them
+pub numbersFrom-append : (a m n : ℕ) → numbersFrom a (m + n) ≡ numbersFrom a m ++ numbersFrom (a + m) n
 unfolding numbersFrom
-numbersFrom-snoc a zero = ap (λ (k : ℕ). k ∷ []) (omega arith)
-numbersFrom-snoc a (suc n) =
-    let e : suc a + n ≡ a + suc n = omega arith in
-    ap (_∷_ a) (numbersFrom-snoc (suc a) n ∙ rw e)
+numbersFrom-append a zero n = rw (zero-add, add-zero)
+numbersFrom-append a (suc m) n = let e : suc a + m ≡ a + suc m = omega arith in rw suc-add (ap (_∷_ a) (numbersFrom-append (suc a) m n ∙ rw e))
 
 -- the numbers below one more
 pub below-snoc : (n : ℕ) → below (suc n) ≡ below n ++ (n ∷ [])
-unfolding below
-below-snoc n = let e : 0 + n ≡ n = omega arith in numbersFrom-snoc 0 n ∙ rw e
+unfolding below numbersFrom
+below-snoc n = ap (numbersFrom 0) (sym (add-one n)) ∙ numbersFrom-append 0 n 1 ∙ rw (zero-add n)
 
 -- what a list made of the numbers below one more ends in
 pub map-below-snoc {ℓ} : {A : Type ℓ} (f : ℕ → A) (n : ℕ) → map f (below (suc n)) ≡ map f (below n) ++ (f n ∷ [])

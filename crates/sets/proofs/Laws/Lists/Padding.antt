@@ -1,18 +1,19 @@
--- Laws of `pad`, a list that is filled up to a length, as an array is whose first places are in use: its length, what stands in it, and what
--- storing at the first unused places makes of it; and which arrays are padded lists. Assumes nothing.
-use mathlib.Core.Path.{_≡_, refl, ap₂, _∙_}
-use mathlib.Core.Bool.{Bool, false}
+-- Laws of `pad`, a list that is filled up to a length, as an array is whose first elements are in use: its length, what stands in it, and what
+-- storing at the first unused indices makes of it; which arrays are padded lists; and of arrays that are zero from an index on. Assumes nothing.
+use mathlib.Core.Path.{_≡_, refl, sym, ap₂, _∙_}
+use mathlib.Core.Bool.{Bool, true, false, _&&_, and-assoc}
 use mathlib.Core.List.{List, [], _∷_, _++_, append-assoc, append-nil}
 use Prim.Native.Nat.{ℕ, zero, suc, _+_, _-_, _≤_, _<_}
 use native.Mathlib.Nat.{sub-zero, zero-sub, suc-sub-suc}
 use native.Mathlib.Omega.{arith}
 use lib.Dec.{T, eqb, eqb→eq, eqb-refl}
-use lib.ListN.{length, getD, take, drop, set, replicate, length-append, length-drop, length-replicate, take-append-drop}
-use lib.Seq.{length-take-le, take-append-seam, drop-append-add, drop-at, set-append-seam}
-use Rattle.sets.specs.Lists.{all, keep, pad}
+use lib.Bits.{bitOr, or-add-and, and-le-l, and-le-r}
+use lib.ListN.{length, getD, take, drop, set, replicate, length-append, length-drop, length-replicate, take-append-drop, drop-of-length-le}
+use lib.Seq.{drop-cons, length-take-le, take-append-seam, drop-append-add, drop-at, set-append-seam}
+use Rattle.sets.specs.Lists.{all, keep, pad, zeroFrom}
 use Rattle.sets.proofs.Laws.Lists.Ends.{all-append, keep-append}
 use Rattle.sets.proofs.Laws.Lists.{keep-all}
-use Rattle.sets.proofs.Laws.Tests.{and-both, and-left, and-right}
+use Rattle.sets.proofs.Laws.Tests.{T-ext, and-both, and-left, and-right}
 
 module _ {ℓ} {A : Type ℓ} where
   -- ---- runs of one value
@@ -66,7 +67,7 @@ module _ {ℓ} {A : Type ℓ} where
   keep-pad p n a xs e t =
       keep-append p xs (replicate (n - length xs) a) ∙ ap₂ {C = List A} (λ s u. s ++ u) (keep-all p xs t) (keep-replicate p a e (n - length xs)) ∙ append-nil xs
 
-  -- ---- storing at the first unused places
+  -- ---- storing at the first unused indices
 
   -- one value
   pub set-pad : (n : ℕ) (a : A) (xs : List A) (v : A) → length xs < n → set (pad n a xs) (length xs) v ≡ pad n a (xs ++ (v ∷ []))
@@ -103,3 +104,30 @@ pad-take n k a xs e l h =
 pub drop-pad-same : (n k a : ℕ) (xs : List ℕ) → length xs ≡ k → T (all (eqb a) (drop k (pad n a xs)))
 unfolding pad
 drop-pad-same n k a xs e = rw (drop-at xs (replicate (n - length xs) a) k e) (all-replicate (eqb a) a (eqb-refl a) (n - length xs))
+
+-- ---- zero from an index on
+
+-- joined digits are 0 exactly if both are
+or-zero : (a b : ℕ) → eqb (bitOr a b) 0 ≡ (eqb a 0 && eqb 0 b)
+or-zero a b =
+    T-ext (eqb (bitOr a b) 0) (eqb a 0 && eqb 0 b)
+    (λ t.
+    let none : bitOr a b ≡ 0 = eqb→eq (bitOr a b) 0 t in
+    let left : a ≡ 0 = omega (arith, or-add-and a b, and-le-r a b) in
+    let right : 0 ≡ b = omega (arith, or-add-and a b, and-le-l a b) in
+    and-both (eqb a 0) (eqb 0 b) (rw left tt) (rw (← right) tt))
+    (λ t.
+    let left : a ≡ 0 = eqb→eq a 0 (and-left (eqb a 0) (eqb 0 b) t) in
+    let right : 0 ≡ b = eqb→eq 0 b (and-right (eqb a 0) (eqb 0 b) t) in
+    rw (left, ← right) tt)
+
+module _ (i : ℕ) (xs : List ℕ) where
+  -- nothing is left past the end
+  pub zeroFrom-past : length xs ≤ i → zeroFrom i xs ≡ true
+  unfolding zeroFrom all
+  zeroFrom-past h = rw (drop-of-length-le xs h)
+
+  -- one number more is looked at
+  pub zeroFrom-more : i < length xs → (digits : ℕ) → (eqb digits 0 && zeroFrom i xs) ≡ (eqb (bitOr digits (getD xs i 0)) 0 && zeroFrom (suc i) xs)
+  unfolding zeroFrom all
+  zeroFrom-more h digits = rw (drop-cons xs i 0 h, or-zero) (sym (and-assoc (eqb digits 0) (eqb 0 (getD xs i 0)) (zeroFrom (suc i) xs)))

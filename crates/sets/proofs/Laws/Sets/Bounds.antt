@@ -4,7 +4,7 @@
 use Prim.Native.Nat.{ℕ, _+_, _-_, _^_, _≤_, _<_}
 use native.Mathlib.Nat.{lt-of-lt-of-le}
 use native.Mathlib.Omega.{arith}
-use mathlib.Core.Path.{_≡_, sym, ap, _∙_, subst}
+use mathlib.Core.Path.{_≡_, ap, _∙_, subst}
 use mathlib.Core.Bool.{false}
 use mathlib.Core.List.{List, List·Memᴰ}
 use mathlib.Core.Logic.{⊎-elim}
@@ -39,7 +39,7 @@ allBelow-union n s t h k = allBelow-of n (union s t) (λ a m. ⊎-elim (allBelow
 -- an atom more
 pub allBelow-with : (n a s : ℕ) → a < n → T (allBelow n s) → T (allBelow n (with a s))
 allBelow-with n a s l h =
-    allBelow-of n (with a s) (λ b m. ⊎-elim (allBelow-at n s b h) (λ e. subst (λ (x : ℕ). x < n) (sym (eqb→eq b a e)) l) (with-cases b a s m))
+    allBelow-of n (with a s) (λ b m. ⊎-elim (allBelow-at n s b h) (λ e. subst (λ (x : ℕ). x < n) (eqb→eq a b e) l) (with-cases b a s m))
 
 -- an atom less
 pub allBelow-without : (n a s : ℕ) → T (allBelow n s) → T (allBelow n (without a s))
@@ -47,7 +47,7 @@ allBelow-without n a s h = allBelow-of n (without a s) (λ b m. allBelow-at n s 
 
 -- the atoms listed
 pub allBelow-setOf : (n : ℕ) (xs : List ℕ) → ((a : ℕ) → List·Memᴰ a xs → a < n) → T (allBelow n (setOf xs))
-allBelow-setOf n xs h = allBelow-of n (setOf xs) (λ a m. h a (among-at a xs (subst T (member-setOf a xs) m)))
+allBelow-setOf n xs h = allBelow-of n (setOf xs) (λ a m. h a (among-at xs a (subst T (member-setOf a xs) m)))
 
 -- a set of atoms below n is a number below 2^n
 pub allBelow-less : (n s : ℕ) → T (allBelow n s) → s < 2 ^ n
@@ -73,13 +73,6 @@ without-member a s h = rw (true-of-T (member a s) h)
 -- a set less a member is less
 pub without-less : (a s : ℕ) → T (member a s) → without a s < s
 without-less a s h = rw (without-member a s h) (omega (arith, member-power a s h, pow-pos a))
-
--- a set with one atom more, as numbers
-pub with-not-member : (a s : ℕ) → member a s ≡ false → with a s ≡ s + 2 ^ a
-with-not-member a s h =
-    let e : with a s - 2 ^ a ≡ s = sym (without-member a (with a s) (with-same a s)) ∙ without-with a s h in
-    let l : 2 ^ a ≤ with a s = member-power a (with a s) (with-same a s) in
-    omega arith
 
 -- a set with one atom more is greater
 pub with-more : (a s : ℕ) → member a s ≡ false → s < with a s

@@ -1,37 +1,27 @@
 -- The ascending list of a set's members, and the set's size: the list has exactly the members, ascends and determines the set; the size of the
 -- empty set, of a set with an atom more or less, and of a subset. Assumes nothing.
-use Prim.Native.Nat.{ℕ, zero, suc, _+_, _≤_, _<_}
+use Prim.Native.Nat.{ℕ, zero, suc, _+_, _-_, _≤_, _<_}
+use native.Mathlib.Nat.{zero-add}
 use native.Mathlib.Omega.{arith}
 use mathlib.Core.Path.{_≡_, refl, sym, ap, _∙_, subst}
-use mathlib.Core.Bool.{Bool, true, false, _&&_, _||_, not, cond, or-false, false≢true}
-use mathlib.Core.List.{List, [], _∷_, List·Memᴰ, List·Memᴰ·head, List·Memᴰ·tail, List·Memᴰ·not-nil}
+use mathlib.Core.Bool.{Bool, true, false, _&&_, not, cond, false≢true}
+use mathlib.Core.List.{List, [], _∷_, List·Memᴰ}
 use mathlib.Core.Logic.{⊎-elim}
-use lib.Dec.{T, eqb, leb, leb→le, le→leb, eqb→eq}
-use lib.ListN.{length}
-use borrow.Author.Tests.{eqb-true, eqb-false, ne-eqb, not-true}
+use lib.Dec.{T, leb, leb→le, le→leb, eqb→eq}
+use lib.ListN.{length, length-append}
+use borrow.Author.Tests.{not-true}
 use Rattle.sets.specs.Lists.{any, keep, numbersFrom, below, among, ascending}
 use Rattle.sets.proofs.Laws.Tests.{T-of-true, true-of-T, T-ext, and-both, and-left, and-right}
-use Rattle.sets.proofs.Laws.Lists.{any-find, keep-of, keep-at, keep-cong, among-of, among-at, keep-shorter, keep-none, any-none}
-use Rattle.sets.proofs.Laws.Lists.Places.{place-of, length-below, getD-below, below-of, any-below}
+use Rattle.sets.proofs.Laws.Lists.{any-find, keep-of, keep-at, keep-cong, among-of, among-at, keep-shorter, keep-fewer, keep-none, any-none}
+use Rattle.sets.proofs.Laws.Lists.Indices.{length-below, below-of, below-at, any-below, numbersFrom-least}
+use Rattle.sets.proofs.Laws.Lists.Ends.{keep-append, numbersFrom-append}
 use Rattle.sets.proofs.Laws.Lists.Ascending.{ascendingFrom, ascending-next, ascending-from-zero}
 use Rattle.sets.specs.Sets.{mostAtoms}
 use Rattle.sets.specs.Sets.{member, with, without, setOf, subset, allBelow, members, size}
 use Rattle.sets.proofs.Laws.Sets.Digits.{member-empty, set-ext, allBelow-at}
-use Rattle.sets.proofs.Laws.Sets.{member-with, member-setOf, with-same, with-cases, without-same, with-without, subset-of, subset-at, subset-antisym}
+use Rattle.sets.proofs.Laws.Sets.{member-setOf, with-other, with-same, with-cases, without-same, with-without, subset-of, subset-at, subset-antisym}
 
 -- ---- lists of numbers
-
-below-at : (n i : ℕ) → List·Memᴰ i (below n) → i < n
-below-at n i m =
-    let (k, l, e) = place-of 0 m in
-    let j : k < n = rw length-below at l in
-    subst (λ (x : ℕ). x < n) (sym (getD-below n k j) ∙ e) j
-
-numbers-least : (k n : ℕ) {x : ℕ} → List·Memᴰ x (numbersFrom k n) → k ≤ x
-unfolding numbersFrom
-numbers-least k zero m = absurd (List·Memᴰ·not-nil m)
-numbers-least k (suc n) (List·Memᴰ·head e) = omega arith
-numbers-least k (suc n) {x} (List·Memᴰ·tail m) = let l : suc k ≤ x = numbers-least (suc k) n m in omega arith
 
 ascendingFrom-down : (k : ℕ) (xs : List ℕ) → T (ascendingFrom (suc k) xs) → T (ascendingFrom k xs)
 unfolding ascendingFrom
@@ -53,48 +43,16 @@ module _ (p : ℕ → Bool) where
       go true h = and-both (leb k k) (ascending (k ∷ rest)) (le→leb k k (omega arith)) (subst T (sym (ascending-next k rest)) h)
       go false h = ascendingFrom-down k rest h
 
-module _ {ℓ} {A : Type ℓ} (p q : A → Bool) (h : (x : A) → T (p x) → T (q x)) where
-  -- a weaker test keeps no fewer
-  keep-length : (xs : List A) → length (keep p xs) ≤ length (keep q xs)
-  unfolding keep
-  keep-length [] = omega arith
-  keep-length (x ∷ xs) = go (p x) (q x) (h x) (keep-length xs)
-    where
-      go : (t u : Bool) → (T t → T u) → length (keep p xs) ≤ length (keep q xs)
-          → length (cond t (x ∷ keep p xs) (keep p xs)) ≤ length (cond u (x ∷ keep q xs) (keep q xs))
-      go true true f l = omega arith
-      go true false f l = absurd (f tt)
-      go false true f l = omega arith
-      go false false f l = l
-
 module _ (p q : ℕ → Bool) (a : ℕ) (pa : p a ≡ false) (qa : q a ≡ true) (other : (x : ℕ) → (x ≡ a → ⊥) → q x ≡ p x) where
   -- a test that one number more passes keeps one more
-  keep-one-more : (k n : ℕ) → k ≤ a → a < k + n → length (keep q (numbersFrom k n)) ≡ suc (length (keep p (numbersFrom k n)))
-  unfolding keep numbersFrom
-  keep-one-more k zero l m = absurd (omega arith)
-  keep-one-more k (suc n) l m = go (eqb k a) refl (keep-one-more (suc k) n)
-    where
-      ps : List ℕ
-      ps = keep p (numbersFrom (suc k) n)
-
-      qs : List ℕ
-      qs = keep q (numbersFrom (suc k) n)
-
-      same : (t : Bool) → length qs ≡ suc (length ps) → length (cond t (k ∷ qs) qs) ≡ suc (length (cond t (k ∷ ps) ps))
-      same true e = ap suc e
-      same false e = e
-
-      go : (t : Bool) → eqb k a ≡ t → (suc k ≤ a → a < suc k + n → length qs ≡ suc (length ps))
-          → length (cond (q k) (k ∷ qs) qs) ≡ suc (length (cond (p k) (k ∷ ps) ps))
-      go true e rest =
-          let c : k ≡ a = eqb-true k a e in
-          let pk : p k ≡ false = ap p c ∙ pa in
-          let qk : q k ≡ true = ap q c ∙ qa in
-          let r : qs ≡ ps = keep-cong (numbersFrom (suc k) n) (λ x i. other x (λ d. let j : suc k ≤ x = numbers-least (suc k) n i in omega arith)) in
-          rw (pk, qk) (ap (λ (zs : List ℕ). suc (length zs)) r)
-      go false e rest =
-          let f : k ≡ a → ⊥ = eqb-false k a e in
-          rw (other k f) (same (p k) (rest (omega arith) (omega arith)))
+  keep-one-more : (n : ℕ) → a < n → length (keep q (below n)) ≡ suc (length (keep p (below n)))
+  unfolding keep numbersFrom below
+  keep-one-more n l =
+      let rest : List ℕ = numbersFrom (suc a) (n - suc a) in
+      let all : n ≡ a + suc (n - suc a) = omega arith in
+      let before : keep q (below a) ≡ keep p (below a) = keep-cong (below a) (λ x i. other x (λ e. omega (arith, below-at {n = a} i))) in
+      let after : keep q rest ≡ keep p rest = keep-cong rest (λ x i. other x (λ e. omega (arith, numbersFrom-least (suc a) (n - suc a) i))) in
+      rw (all, numbersFrom-append 0 a (suc (n - suc a)), zero-add a) (simp (keep-append, pa, qa, before, after, length-append) (omega arith))
 
 -- ---- the list of the members
 
@@ -106,7 +64,7 @@ members-at s m = keep-at (λ x. member x s) (below mostAtoms) m .1
 -- what is listed is an atom
 pub members-below : (s : ℕ) {a : ℕ} → List·Memᴰ a (members s) → a < mostAtoms
 unfolding members
-members-below s {a} m = below-at mostAtoms a (keep-at (λ x. member x s) (below mostAtoms) m .0)
+members-below s {a} m = below-at (keep-at (λ x. member x s) (below mostAtoms) m .0)
 
 -- a member is listed
 pub members-of : (s : ℕ) {a : ℕ} → T (allBelow mostAtoms s) → T (member a s) → List·Memᴰ a (members s)
@@ -122,7 +80,7 @@ members-ascending s = subst T (ascending-from-zero (members s)) (keep-ascends (�
 pub setOf-members : (s : ℕ) → T (allBelow mostAtoms s) → setOf (members s) ≡ s
 setOf-members s b =
     set-ext (λ a. member-setOf a (members s)
-    ∙ T-ext (among a (members s)) (member a s) (λ h. members-at s (among-at a (members s) h)) (λ h. among-of (members-of s b h)))
+    ∙ T-ext (among (members s) a) (member a s) (λ h. members-at s (among-at (members s) a h)) (λ h. among-of (members-of s b h)))
 
 -- sets with the same list are equal
 pub members-ext : {s t : ℕ} → T (allBelow mostAtoms s) → T (allBelow mostAtoms t) → members s ≡ members t → s ≡ t
@@ -168,7 +126,7 @@ pub size-with : (a s : ℕ) → member a s ≡ false → a < mostAtoms → size 
 unfolding size members below
 size-with a s h l =
     keep-one-more (λ x. member x s) (λ x. member x (with a s)) a h (true-of-T (member a (with a s)) (with-same a s))
-    (λ x f. member-with x a s ∙ ap (_||_ (member x s)) (ne-eqb x a f) ∙ or-false (member x s)) 0 mostAtoms (omega arith) (omega arith)
+    (λ x f. with-other x a s (λ e. f (sym e))) mostAtoms l
 
 -- a member less
 pub size-without : (a s : ℕ) → T (member a s) → a < mostAtoms → suc (size (without a s)) ≡ size s
@@ -177,12 +135,12 @@ size-without a s h l = sym (size-with a (without a s) (without-same a s) l) ∙ 
 -- a subset has no more atoms
 pub size-subset : (s t : ℕ) → T (subset s t) → size s ≤ size t
 unfolding size members
-size-subset s t h = keep-length (λ x. member x s) (λ x. member x t) (λ x. subset-at s t x h) (below mostAtoms)
+size-subset s t h = keep-fewer (λ x. member x s) (λ x. member x t) (below mostAtoms) (λ x m. subset-at s t x h)
 
 -- a subset that is not the whole set has fewer atoms
 pub size-subset-less : (s t : ℕ) → T (allBelow mostAtoms t) → T (subset s t) → (s ≡ t → ⊥) → size s < size t
 size-subset-less s t b h f =
     let (a, m, e) = not-subset-member mostAtoms t s b (λ k. f (subset-antisym h k)) in
     let i : T (subset (with a s) t) =
-    subset-of (with a s) t (λ x k. ⊎-elim (subset-at s t x h) (λ d. subst (λ (y : ℕ). T (member y t)) (sym (eqb→eq x a d)) m) (with-cases x a s k)) in
+    subset-of (with a s) t (λ x k. ⊎-elim (subset-at s t x h) (λ d. subst (λ (y : ℕ). T (member y t)) (eqb→eq a x d) m) (with-cases x a s k)) in
     subst (λ (n : ℕ). n ≤ size t) (size-with a s e (allBelow-at mostAtoms t a b m)) (size-subset (with a s) t i)

@@ -1,0 +1,34 @@
+-- Laws of sums and products over a list: of a sum with a common factor, of positive factors, and of factors that differ at one index. Assumes nothing.
+use Prim.Native.Nat.{ℕ, suc, _+_, _-_, _*_, _≤_, _<_}
+use native.Mathlib.Omega.{arith}
+use native.Mathlib.Nat.{zero-add, zero-mul, add-mul, mul-pos}
+use mathlib.Core.Path.{_≡_, refl, sym, ap, _∙_}
+use mathlib.Core.List.{List, [], _∷_, map, map-append, List·Memᴰ, List·Memᴰ·head, List·Memᴰ·tail}
+use Rattle.sets.specs.Lists.{sum, product, numbersFrom, below}
+use Rattle.sets.proofs.Laws.Lists.{map-cong}
+use Rattle.sets.proofs.Laws.Lists.Ends.{product-append, numbersFrom-append}
+use Rattle.sets.proofs.Laws.Lists.Indices.{below-at, numbersFrom-least}
+
+-- a factor common to all comes out of a sum
+pub sum-times {ℓ} : {A : Type ℓ} (f : A → ℕ) (k : ℕ) (xs : List A) → sum (map (λ (x : A). f x * k) xs) ≡ sum (map f xs) * k
+unfolding sum
+sum-times f k [] = sym (zero-mul k)
+sum-times f k (x ∷ xs) = ap (_+_ (f x * k)) (sum-times f k xs) ∙ sym (add-mul (f x) (sum (map f xs)) k)
+
+-- a product of numbers that are at least 1
+pub product-positive {ℓ} : {A : Type ℓ} (f : A → ℕ) (xs : List A) → ((x : A) → List·Memᴰ x xs → 1 ≤ f x) → 1 ≤ product (map f xs)
+unfolding product
+product-positive f [] h = omega arith
+product-positive f (x ∷ xs) h = mul-pos (h x (List·Memᴰ·head refl)) (product-positive f xs (λ y m. h y (List·Memᴰ·tail m)))
+
+-- products that differ at index j alone
+pub product-change : (f g : ℕ → ℕ) (j u v : ℕ) → f j * u ≡ g j * v → ((i : ℕ) → (i ≡ j → ⊥) → f i ≡ g i)
+    → (n : ℕ) → j < n → product (map f (below n)) * u ≡ product (map g (below n)) * v
+unfolding product numbersFrom below
+product-change f g j u v here other n l =
+    let rest : List ℕ = numbersFrom (suc j) (n - suc j) in
+    let all : n ≡ j + suc (n - suc j) = omega arith in
+    let before : map f (below j) ≡ map g (below j) = map-cong (below j) (λ i m. other i (λ e. omega (arith, below-at {n = j} m))) in
+    let after : map f rest ≡ map g rest = map-cong rest (λ i m. other i (λ e. omega (arith, numbersFrom-least (suc j) (n - suc j) m))) in
+    rw (all, numbersFrom-append 0 j (suc (n - suc j)), zero-add j)
+    (simp (map-append, product-append, before, after) (omega (arith, ap (_*_ (product (map g (below j)) * product (map g rest))) here)))

@@ -1,0 +1,188 @@
+-- Laws of sets in two words: what each operation on sets does to the low word and to the high one. Nothing above has to look at a word. Assumes
+-- nothing.
+pub mod Counts
+use Prim.Native.Nat.{ℕ, _+_, _-_, _*_, _^_, _≤_, _<_, _/_, _%_}
+use native.Mathlib.Nat.{one-mul, mod-eq-of-lt}
+use native.Mathlib.Omega.{arith}
+use mathlib.Core.Path.{_≡_, refl, sym, ap, _∙_}
+use mathlib.Core.Bool.{Bool, true, false, _&&_, cond}
+use lib.Arith.{digits-lt}
+use lib.Bits.{bitOr, bitAnd, or-block, or-lt, or-zero-r, and-mask}
+use lib.Dec.{T, eqb, lt→ltb}
+use lib.Pow.{pow-lt, pow-add, pow-pos}
+use borrow.Author.Tests.{lt-ltb, le-ltb}
+use Rattle.sets.specs.Masks.{maskMeans, withAtom}
+use Rattle.sets.specs.Sets.{mostAtoms, member, union, with, without, subset, allBelow, words}
+use Rattle.sets.specs.declared.mask.Mask.{Mask}
+use Rattle.sets.proofs.Laws.Sets.Bounds.{without-member}
+use Rattle.sets.proofs.Laws.Sets.Digits.{member-and, member-low, member-high, member-full, member-power, member-without, set-ext, allBelow-at}
+use Rattle.sets.proofs.Laws.Tests.{T-of-true, true-of-T, false-of-T, eqb-ext, and-cong-right}
+
+-- ---- what a mask means
+
+module _ (m : Mask) (low : m .low < 2 ^ 64) (high : m .high < 2 ^ 64) where
+  -- a mask is below 2^128 ..
+  pub maskMeans-less : maskMeans m < 2 ^ mostAtoms
+  unfolding maskMeans
+  maskMeans-less = digits-lt high low
+
+  -- .. so its atoms are below 128
+  pub maskMeans-below : T (allBelow mostAtoms (maskMeans m))
+  unfolding allBelow
+  maskMeans-below = lt→ltb (maskMeans m) (2 ^ mostAtoms) maskMeans-less
+
+-- the two words are those of the set
+pub mask-words : (m : Mask) (set : ℕ) → m .low < 2 ^ 64 → maskMeans m ≡ set → (m .low ≡ set % 2 ^ 64) × (m .high ≡ set / 2 ^ 64)
+unfolding maskMeans
+mask-words m set l e = omega arith
+
+-- masks that mean one set have the same words
+pub maskMeans-injective : (m n : Mask) → m .low < 2 ^ 64 → n .low < 2 ^ 64 → maskMeans m ≡ maskMeans n → (m .low ≡ n .low) × (m .high ≡ n .high)
+unfolding maskMeans
+maskMeans-injective m n h k e = omega arith
+
+-- ---- one digit of one word
+
+-- the digit of an atom, as code shifts it, does not leave its word
+pub shifted : (a : ℕ) → a < 64 → 1 * 2 ^ a % 2 ^ 64 ≡ 2 ^ a
+shifted a l = rw one-mul (mod-eq-of-lt (pow-lt l))
+
+-- the digit that code shifts down and cuts off says whether its atom is a member
+pub digit-member : (a w : ℕ) → eqb (bitAnd (w / 2 ^ a) 1) 1 ≡ member a w
+unfolding member
+digit-member a w = ap (λ (x : ℕ). eqb x 1) (and-mask (w / 2 ^ a) 1)
+
+-- an atom from 64 on is as many past 64 in the high word
+past : (a : ℕ) → 64 ≤ a → 64 + (a - 64) ≡ a
+past a h = omega arith
+
+module _ (low high : ℕ) (l : low < 2 ^ 64) where
+  -- ---- membership
+
+  -- an atom below 64 is in the low word ..
+  pub member-low-word : (a : ℕ) → a < 64 → member a low ≡ member a (words low high)
+  member-low-word a h = sym (member-low a 64 high low h)
+
+  -- .. and one from 64 on in the high one
+  pub member-high-word : (a : ℕ) → 64 ≤ a → member (a - 64) high ≡ member a (words low high)
+  member-high-word a h = sym (ap (λ (x : ℕ). member x (words low high)) (sym (past a h)) ∙ member-high (a - 64) 64 high low l)
+
+  -- ---- an atom less
+
+  -- an atom of the low word
+  without-low : (a : ℕ) → a < 64 → words (without a low) high ≡ without a (words low high)
+  unfolding without
+  without-low a h = rw (← member-low-word a h) (go (member a low) refl)
+    where
+      go : (t : Bool) → member a low ≡ t → words (cond t (low - 2 ^ a) low) high ≡ cond t (words low high - 2 ^ a) (words low high)
+      go true e = omega (arith, member-power a low (T-of-true e))
+      go false e = refl
+
+  -- an atom of the high word
+  without-high : (a : ℕ) → 64 ≤ a → words low (without (a - 64) high) ≡ without a (words low high)
+  unfolding without
+  without-high a h = rw (← member-high-word a h) (go (member (a - 64) high) refl)
+    where
+      power : 2 ^ a ≡ 2 ^ 64 * 2 ^ (a - 64)
+      power = ap (λ (k : ℕ). 2 ^ k) (sym (past a h)) ∙ pow-add 2 64 (a - 64)
+
+      go : (t : Bool) → member (a - 64) high ≡ t → words low (cond t (high - 2 ^ (a - 64)) high) ≡ cond t (words low high - 2 ^ a) (words low high)
+      go true e = omega (arith, power, member-power (a - 64) high (T-of-true e))
+      go false e = refl
+
+-- a word less an atom, as code clears a digit
+cleared : (a w : ℕ) → a < 64 → w < 2 ^ 64 → bitAnd w (2 ^ 64 - 1 - 2 ^ a) ≡ without a w
+unfolding allBelow
+cleared a w h l = set-ext (λ b.
+    member-and b w (2 ^ 64 - 1 - 2 ^ a)
+    ∙ ap (λ (x : ℕ). member b w && member b x) (sym (without-member a (2 ^ 64 - 1) (member-full a 64 h)))
+    ∙ ap (_&&_ (member b w)) (member-without b a (2 ^ 64 - 1))
+    ∙ and-cong-right (member b w) (λ t. rw (true-of-T (member b (2 ^ 64 - 1)) (member-full b 64 (allBelow-at 64 w b (lt→ltb w (2 ^ 64) l) t))))
+    ∙ sym (member-without b a w))
+
+-- ---- equal sets
+
+module _ (low high low′ high′ : ℕ) (l : low < 2 ^ 64) (l′ : low′ < 2 ^ 64) where
+  -- where the low words are the same, the high words decide
+  pub eqb-high-word : low ≡ low′ → eqb high high′ ≡ eqb (words low high) (words low′ high′)
+  eqb-high-word same = eqb-ext high high′ (words low high) (words low′ high′) (λ e. omega arith) (λ e. omega arith)
+
+  -- where they are not, the sets are not equal
+  pub eqb-low-word : (low ≡ low′ → ⊥) → eqb low low′ ≡ eqb (words low high) (words low′ high′)
+  eqb-low-word other = eqb-ext low low′ (words low high) (words low′ high′) (λ e. absurd (other e)) (λ e. omega arith)
+
+-- ---- a union
+
+-- word by word
+pub union-words : (low high low′ high′ : ℕ) → low < 2 ^ 64 → low′ < 2 ^ 64
+    → words (bitOr low low′) (bitOr high high′) ≡ union (words low high) (words low′ high′)
+unfolding union
+union-words low high low′ high′ h k = sym (or-block 64 high high′ low low′ h k)
+
+-- ---- an atom more, if it is one
+
+-- a number below 128 joins
+pub withAtom-atom : (a s : ℕ) → a < mostAtoms → withAtom a s ≡ with a s
+unfolding withAtom
+withAtom-atom a s l = rw (lt-ltb a mostAtoms l)
+
+-- one from 128 on does not
+pub withAtom-past : (a s : ℕ) → mostAtoms ≤ a → withAtom a s ≡ s
+unfolding withAtom
+withAtom-past a s h = rw (le-ltb a mostAtoms h)
+
+-- ---- masks
+
+-- no atom from 128 on is in a set
+pub member-past : (m : Mask) → m .low < 2 ^ 64 → m .high < 2 ^ 64 → (a : ℕ) → 128 ≤ a → member a (maskMeans m) ≡ false
+member-past m low high a h =
+    false-of-T (member a (maskMeans m)) (λ t. let l : a < 128 = allBelow-at mostAtoms (maskMeans m) a (maskMeans-below m low high) t in omega arith)
+
+module _ (s t : Mask) (low : s .low < 2 ^ 64) (low′ : t .low < 2 ^ 64) where
+  both : bitOr (s .low) (t .low) < 2 ^ 64
+  both = or-lt 64 (s .low) (t .low) low low′
+
+  -- where the low word of s is in that of t, the high words decide
+  pub subset-high-word : bitOr (s .low) (t .low) ≡ t .low → eqb (bitOr (s .high) (t .high)) (t .high) ≡ subset (maskMeans s) (maskMeans t)
+  unfolding subset maskMeans
+  subset-high-word same =
+      rw (← union-words (s .low) (s .high) (t .low) (t .high) low low′) (eqb-high-word _ _ (t .low) (t .high) both low′ same)
+
+  -- where it is not, s is no subset of t
+  pub subset-low-word : (bitOr (s .low) (t .low) ≡ t .low → ⊥) → eqb (bitOr (s .low) (t .low)) (t .low) ≡ subset (maskMeans s) (maskMeans t)
+  unfolding subset maskMeans
+  subset-low-word other =
+      rw (← union-words (s .low) (s .high) (t .low) (t .high) low low′) (eqb-low-word _ _ (t .low) (t .high) both low′ other)
+
+module _ (m : Mask) (low : m .low < 2 ^ 64) (a : ℕ) where
+  -- an atom more, in the low word
+  pub with-low-word : a < 64 → maskMeans (record { low = bitOr (m .low) (1 * 2 ^ a % 2 ^ 64); high = m .high }) ≡ withAtom a (maskMeans m)
+  unfolding maskMeans with
+  with-low-word h =
+      let digit : 2 ^ a ≡ words (2 ^ a) 0 = omega arith in
+      rw (shifted a h, withAtom-atom a (maskMeans m) (omega arith))
+      (ap (words (bitOr (m .low) (2 ^ a))) (sym (or-zero-r (m .high)))
+      ∙ union-words (m .low) (m .high) (2 ^ a) 0 low (pow-lt h)
+      ∙ ap (union (maskMeans m)) (sym digit))
+
+  -- an atom more, in the high word
+  pub with-high-word : 64 ≤ a → a < 128 → maskMeans (record { low = m .low; high = bitOr (m .high) (1 * 2 ^ (a - 64) % 2 ^ 64) }) ≡ withAtom a (maskMeans m)
+  unfolding maskMeans with
+  with-high-word h k =
+      let digit : 2 ^ a ≡ words 0 (2 ^ (a - 64)) = ap (λ (k : ℕ). 2 ^ k) (sym (past a h)) ∙ pow-add 2 64 (a - 64) ∙ omega arith in
+      rw (shifted (a - 64) (omega arith), withAtom-atom a (maskMeans m) k)
+      (ap (λ (x : ℕ). words x (bitOr (m .high) (2 ^ (a - 64)))) (sym (or-zero-r (m .low)))
+      ∙ union-words (m .low) (m .high) 0 (2 ^ (a - 64)) low (pow-pos 64)
+      ∙ ap (union (maskMeans m)) (sym digit))
+
+  -- an atom less, in the low word
+  pub without-low-word : a < 64 → maskMeans (record { low = bitAnd (m .low) (2 ^ 64 - 1 - 1 * 2 ^ a % 2 ^ 64); high = m .high }) ≡ without a (maskMeans m)
+  unfolding maskMeans
+  without-low-word h = rw (shifted a h, cleared a (m .low) h low) (without-low (m .low) (m .high) low a h)
+
+  -- an atom less, in the high word
+  pub without-high-word : 64 ≤ a → a < 128 → m .high < 2 ^ 64
+      → maskMeans (record { low = m .low; high = bitAnd (m .high) (2 ^ 64 - 1 - 1 * 2 ^ (a - 64) % 2 ^ 64) }) ≡ without a (maskMeans m)
+  unfolding maskMeans
+  without-high-word h k high =
+      rw (shifted (a - 64) (omega arith), cleared (a - 64) (m .high) (omega arith) high) (without-high (m .low) (m .high) low a h)
