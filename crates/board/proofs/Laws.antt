@@ -1,8 +1,10 @@
 pub mod Accepted
 pub mod Board
+pub mod Capped
 pub mod EntryPoints
 pub mod Facts
 pub mod File
+pub mod Filled
 pub mod Holds
 pub mod Lent
 pub mod Load

@@ -4,7 +4,7 @@
 use Prim.Native.Nat.{ℕ}
 use mathlib.Core.Path.{_≡_}
 use mathlib.Core.Bool.{Bool, true, false, not, cond}
-use mathlib.Core.List.{List, [], _∷_}
+use mathlib.Core.List.{List}
 use lib.Dec.{leb}
 use Rattle.board.specs.Sizes.{mostBody}
 use Rattle.board.specs.Answers.{FileAnswer, accepted, refusedAt, Answer, granted, refused}
@@ -26,13 +26,14 @@ use Rattle.board.specs.declared.Told.the-variants as told
 
 -- ---- reading one record
 
--- a rule's eight places stand in one number, low byte first
+-- What each value of the code's enum `Record` means: the kinds of "The board file". A rule's eight places stand in one number, low byte first.
 unfoldable pub recordMeans : Record → file.Record
 recordMeans (Count n) = file.count n
 recordMeans (Hypothesis d a w) = file.hypothesis d a w
 recordMeans (Rule h places) = file.rule h (lowBytes mostBody places)
 recordMeans End = file.finish
 
+-- What each value of the code's enum `Read` means: "the record and the place of the next, or refusal 1 or 2 and its place"
 unfoldable pub readMeans : Read → FileAnswer Found
 readMeans (read.At r next) = accepted (record { found = recordMeans r; next = next })
 readMeans (read.Refused number place) = refusedAt number place
@@ -44,6 +45,7 @@ unfoldable pub outcomeOf : FileAnswer Board → FileAnswer Unit
 outcomeOf (accepted b) = accepted tt
 outcomeOf (refusedAt number place) = refusedAt number place
 
+-- What each value of the code's enum `Loaded` means: accepted, or a refusal's number and place
 unfoldable pub loadedMeans : Loaded → FileAnswer Unit
 loadedMeans loaded.Accepted = accepted tt
 loadedMeans (loaded.Refused number place) = refusedAt number place
@@ -53,12 +55,9 @@ pub record LoadsAs (answer : FileAnswer Board) (r : Loading) : Type 0 where
   pub answers : loadedMeans (r .answer) ≡ outcomeOf answer
   pub table : r .table ≡ tableIn answer
 
--- it hands back a refusal: "A refused load returns the table whose every field is zero."
-abbrev pub Refuses : Loading → ℕ → ℕ → Type 0
-Refuses r number place = LoadsAs (refusedAt number place) r
-
 -- ---- the yes-or-no
 
+-- What each value of the code's enum `Told` means: yes, no, or "its number alone"
 unfoldable pub toldMeans : Told → Answer Bool
 toldMeans told.Yes = granted true
 toldMeans told.No = granted false

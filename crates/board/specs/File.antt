@@ -1,7 +1,7 @@
 -- The board file, record by record: document 01, "The board file". A file is a list of bytes; a place is an index into it.
 -- Assumes nothing.
 use Prim.Native.Nat.{ℕ, zero, suc, _+_, _*_, _/_, _%_}
-use mathlib.Core.Bool.{Bool, true, false, _&&_, cond}
+use mathlib.Core.Bool.{Bool, _&&_, cond}
 use mathlib.Core.List.{List, [], _∷_}
 use lib.Dec.{leb, eqb}
 use lib.ListN.{length, getD, take, drop}
@@ -18,13 +18,6 @@ pub data Record : Type 0 where
   rule : ℕ → List ℕ → Record
   -- kind 4: the end
   finish : Record
-
--- the record's kind
-unfoldable pub kindOf : Record → ℕ
-kindOf (count n) = 1
-kindOf (hypothesis d a w) = 2
-kindOf (rule h places) = 3
-kindOf finish = 4
 
 -- "kind byte not 1 to 4" is refusal 2
 unfoldable pub knownKind : ℕ → Bool

@@ -1,7 +1,5 @@
--- What `board` means, in the order of document 01: read Sizes, Sets, Answers, Board, Holds, Accepted,
--- File, Load, Table, EntryPoints, Facts.
--- `Lists` has the few functions on lists that these lean on, and `Tests` the laws of tests, functions into Bool.
--- `Promise` lists the laws that `search` may cite.
+-- What `board` means, in the order of document 01: read Sizes, Answers, Board, Holds, Accepted, File, Load, Table, EntryPoints, Facts.
+-- The lists and sets of atoms that these lean on are the crate `sets`'. `Private` has what only contracts of private functions cite.
 pub mod Accepted
 pub mod Answers
 pub mod Board

@@ -9,10 +9,10 @@ use mathlib.Core.Bool.{Bool, true, false, not, _&&_, _||_, cond}
 use mathlib.Core.List.{List, [], _∷_, _++_}
 use lib.Dec.{leb, ltb, eqb}
 use lib.ListN.{length, getD}
-use Rattle.sets.specs.Lists.{any, all, keep, isEmpty, ascending}
+use Rattle.sets.specs.Lists.{any, keep, isEmpty, ascending}
 use Rattle.board.specs.Sizes.{mostAtoms, mostDeclarations, mostHypotheses, mostRules, mostW, emptyPlace}
-use Rattle.board.specs.Board.{Board, Hypothesis, Rule, declarationsIn, declaration, isHypothesis, W}
-use Rattle.board.specs.File.{Record, count, hypothesis, rule, finish, Found, knownKind, readRecord}
+use Rattle.board.specs.Board.{Board, declarationsIn, declaration, isHypothesis, W}
+use Rattle.board.specs.File.{Record, count, hypothesis, rule, finish, knownKind, readRecord}
 use Rattle.board.specs.Answers.{FileAnswer, accepted, refusedAt}
 
 -- the board before the first record
@@ -83,6 +83,7 @@ taking b (rule h places) =
     }
 taking b finish = b
 
+-- kind 4, "end; nothing follows"
 unfoldable pub isFinish : Record → Bool
 isFinish (count n) = false
 isFinish (hypothesis d a w) = false

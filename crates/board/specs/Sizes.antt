@@ -4,20 +4,23 @@
 use Prim.Native.Nat.{ℕ}
 pub use Rattle.sets.specs.Sets.{mostAtoms}
 
+-- "0 to 32 declarations"
 abbrev pub mostDeclarations : ℕ
 mostDeclarations = 32
 
--- the most hypotheses of one declaration
+-- "each of 1 to 16 hypotheses": the most of one declaration
 abbrev pub mostHypotheses : ℕ
 mostHypotheses = 16
 
+-- "whole weights 1 to 16,777,215"
 abbrev pub mostWeight : ℕ
 mostWeight = 16_777_215
 
+-- "0 to 256 rules"
 abbrev pub mostRules : ℕ
 mostRules = 256
 
--- the most body atoms of one rule, which is the number of body places of a rule's record
+-- "0 to 8 body atoms": the most of one rule, which is the number of body places of a rule's record
 abbrev pub mostBody : ℕ
 mostBody = 8
 

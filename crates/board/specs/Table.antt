@@ -4,7 +4,7 @@
 -- cite: the table, written out as a file, loads to itself. Assumes nothing.
 use Prim.Native.Nat.{ℕ, _*_}
 use mathlib.Core.Path.{_≡_}
-use mathlib.Core.Bool.{Bool, true, false, _&&_}
+use mathlib.Core.Bool.{Bool, false, _&&_}
 use mathlib.Core.List.{List, [], _∷_, _++_, map, flatten}
 use lib.Dec.{T, eqb}
 use lib.Pow.{areBytes}
@@ -19,7 +19,7 @@ use Rattle.board.specs.declared.Table.{Table}
 
 -- ---- from a table to its board
 
--- the hypothesis at place i of the arrays of declaration numbers, atoms and weights: "A hypothesis is an atom in exactly one declaration", with a weight
+-- the hypothesis at index i of the arrays of declaration numbers, atoms and weights: "A hypothesis is an atom in exactly one declaration", with a weight
 abbrev pub hypothesisIn : List ℕ → List ℕ → List ℕ → ℕ → Hypothesis
 hypothesisIn declaration atom weight i = record { declaration = getD declaration i 0; atom = getD atom i 0; weight = getD weight i 0 }
 
@@ -27,7 +27,7 @@ hypothesisIn declaration atom weight i = record { declaration = getD declaration
 abbrev pub placesIn : List ℕ → ℕ → List ℕ
 placesIn body i = take mostBody (drop (mostBody * i) body)
 
--- the rule at place i: "a head and 0 to 8 body atoms", those of its places that are filled; "255 is an empty place"
+-- the rule at index i: "a head and 0 to 8 body atoms", those of its places that are filled; "255 is an empty place"
 abbrev pub ruleIn : List ℕ → List ℕ → ℕ → Rule
 ruleIn head body i = record { head = getD head i 0; body = filled (placesIn body i) }
 
@@ -55,6 +55,7 @@ boardOf t =
 unfoldable pub placesOf : Rule → List ℕ
 placesOf r = pad mostBody emptyPlace (r .body)
 
+-- the table that holds a board: "The table keeps the records' order."
 unfoldable pub tableOf : Board → Table
 tableOf b =
     record {
@@ -97,9 +98,11 @@ pub record Loads (t : Table) : Type 0 where
   pub loaded : load file ≡ accepted board
   pub stored : t ≡ tableOf board
 
+-- a hypothesis as a record of kind 2: "declaration, atom, weight in 3 bytes, low byte first"
 unfoldable pub hypothesisBytes : Hypothesis → List ℕ
 hypothesisBytes h = 2 ∷ h .declaration ∷ h .atom ∷ lowBytes 3 (h .weight)
 
+-- a rule as a record of kind 3: "head, then 8 places for body atoms"
 unfoldable pub ruleBytes : Rule → List ℕ
 ruleBytes r = 3 ∷ r .head ∷ placesOf r
 
@@ -123,6 +126,7 @@ sameTable t u =
     && sameNumbers (t .head) (u .head)
     && sameNumbers (t .body) (u .body)
 
+-- loading answered this very table
 unfoldable pub loadsTo : FileAnswer Board → Table → Bool
 loadsTo (accepted b) t = sameTable (tableOf b) t
 loadsTo (refusedAt number place) t = false

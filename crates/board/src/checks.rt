@@ -1,24 +1,76 @@
-// The field checks of a record, in ascending number (document 01, "What the scope says no to"). The arrays lent are those of the table that is
-// being loaded.
+// The field checks of a record, in ascending number (document 01, "What the scope says no to"), and what they have to know of the hypotheses before
+// it. Declarations follow one another, so of all sizes only that of the last one matters, and no record walks over the earlier ones.
 use crate::places::ascend;
-use crate::places::below;
+use crate::places::top;
 use crate::record::Record;
-use crate::weights::count_of;
-use crate::weights::is_among;
-use crate::weights::product_passes;
+use crate::walks::wide;
+use sets::mask::Mask;
+use sets::mask::empty;
+use sets::mask::member;
+use sets::mask::with;
 ghost use mathlib.Core.Path.{_≡_};
 ghost use mathlib.Core.Bool.{_||_};
 ghost use mathlib.Core.List.{List, []};
-ghost use Prim.Native.Nat.{ℕ, suc, _≤_};
+ghost use Prim.Native.Nat.{ℕ, suc, _≤_, _<_};
 ghost use lib.Dec.{eqb};
 ghost use lib.ListN.{length};
-ghost use Rattle.board.specs.Sizes.{mostAtoms, mostBody};
-ghost use Rattle.board.specs.Board.{Board, Rule, declarationsIn};
-ghost use Rattle.board.specs.File.{count, hypothesis, rule, finish, lowBytes};
+ghost use Rattle.board.specs.Sizes.{mostHypotheses, mostBody};
+ghost use Rattle.board.specs.Board.{Board, Hypothesis, declaration};
+ghost use Rattle.board.specs.File.{count, hypothesis, rule, lowBytes};
 ghost use Rattle.board.specs.Load.{firstFailing, fieldChecks};
-ghost use Rattle.board.specs.Table.{hypothesesIn, boardIn};
-ghost use Rattle.board.specs.Private.Lent.{Declared};
 ghost use Rattle.board.specs.EntryPoints.{recordMeans};
+ghost use Rattle.board.specs.Private.Seen.{SeenOf, AtomsOf, Follows};
+ghost use Rattle.board.specs.Private.Taking.{fieldRefusal, SeenAfter};
+
+// What the hypotheses so far leave to know of them: how many declarations they have, how many of them are of the last one, and the set of their atoms.
+pub(crate) struct Seen {
+    pub declarations: usize,
+    pub last: usize,
+    pub atoms: Mask,
+}
+
+// Before the first hypothesis.
+pub(crate) fn nothing_seen() -> Seen
+    ensures { λ r. ⌜ SeenOf [] r ⌝ }
+{
+    Seen {
+        declarations: 0,
+        last: 0,
+        atoms: empty(),
+    }
+}
+
+// How many hypotheses declaration `number` has so far, where it is the last one or the next. 2 basic steps.
+fn size_of(seen: Seen, number: usize) -> usize
+    ensures { λ r. ⌜ ((hs : List Hypothesis) → SeenOf hs seen → Follows hs number → r ≡ length (declaration hs number)) ⌝ }
+{
+    if number == seen.declarations {
+        0
+    } else {
+        seen.last
+    }
+}
+
+// With one hypothesis more, which follows. At most some 12 basic steps.
+pub(crate) fn seen_with(seen: Seen, d: u8, a: u8) -> Seen
+    requires { ⌜ seen .last ≤ mostHypotheses ⌝ }
+    ensures { λ r. ⌜ ((w : ℕ) → SeenAfter seen (hypothesis d a w) r) ⌝ }
+{
+    let number = wide(d);
+    let atoms = with(seen.atoms, a);
+    if number == seen.declarations {
+        return Seen {
+            declarations: number + 1,
+            last: 1,
+            atoms: atoms,
+        };
+    }
+    Seen {
+        declarations: seen.declarations,
+        last: seen.last + 1,
+        atoms: atoms,
+    }
+}
 
 // The number of the check that a count record fails, 0 where it fails none.
 fn count_refusal(n: u8) -> u8
@@ -35,47 +87,30 @@ fn count_refusal(n: u8) -> u8
 
 // A declaration's number is the last one or the next, where there are so many declarations.
 fn follows(number: usize, declarations: usize) -> bool
-    requires { ⌜ number ≤ 255 ⌝ }
+    requires { ⌜ number < 256 ⌝ }
     ensures { λ r. ⌜ r ≡ (eqb (suc number) declarations || eqb number declarations) ⌝ }
 {
-    if number + 1 == declarations {
-        return true;
-    }
-    number == declarations
+    number + 1 == declarations || number == declarations
 }
 
-// The number of the first check that a hypothesis record fails, 0 where it fails none. Two walks over the hypotheses: at most some 11 n + 25 basic
-// steps for n hypotheses, so some 1,450.
-pub(crate) fn hypothesis_refusal<'a>(
-    atoms: usize,
-    hypotheses: usize,
-    declarations: usize,
-    numbers: &'a [u8; 128],
-    atom: &'a [u8; 128],
-    d: u8,
-    a: u8,
-    w: u32,
-) -> u8
-    requires { ⌜ hypotheses ≤ mostAtoms ⌝ }
-    requires { ⌜ declarations ≡ declarationsIn (hypothesesIn (now numbers) [] [] hypotheses) ⌝ }
-    ensures { λ r.
-        ⌜ ((ws : List ℕ) (rs : List Rule)
-        → r ≡ firstFailing (fieldChecks (boardIn atoms (now (numbers .entry)) (now (atom .entry)) ws hypotheses rs) (hypothesis d a w))) ⌝ }
+// The number of the first check that a hypothesis record fails, 0 where it fails none. At most some 30 basic steps.
+pub(crate) fn hypothesis_refusal(atoms: usize, seen: Seen, d: u8, a: u8, w: u32) -> u8
+    ensures { λ r. ⌜ ((b : Board) → b .atoms ≡ atoms → SeenOf (b .hypotheses) seen → r ≡ firstFailing (fieldChecks b (hypothesis d a w))) ⌝ }
 {
-    let number = d as usize;
-    if atoms <= a as usize {
+    let number = wide(d);
+    if atoms <= wide(a) {
         return 4;
     }
     if 31 < number {
         return 5;
     }
-    if !follows(number, declarations) {
+    if !follows(number, seen.declarations) {
         return 5;
     }
-    if is_among(atom, hypotheses, a) {
+    if member(seen.atoms, a) {
         return 6;
     }
-    if 16 <= count_of(numbers, hypotheses, d) {
+    if 16 <= size_of(seen, number) {
         return 6;
     }
     if w == 0 {
@@ -84,34 +119,33 @@ pub(crate) fn hypothesis_refusal<'a>(
     0
 }
 
-// The number of the first check that a rule record fails, 0 where it fails none. Three walks over the places and one over the hypotheses: at most some
-// 830 basic steps.
+// The number of the first check that a rule record fails, 0 where it fails none; `hypotheses` is the set of their atoms. Two walks over the eight
+// places: at most some 140 basic steps.
 pub(crate) fn rule_refusal(
     atoms: usize,
-    hypotheses: usize,
+    hypotheses: Mask,
     rules: usize,
-    atom: &[u8; 128],
     head: u8,
     places: u64,
 ) -> u8
-    requires { ⌜ hypotheses ≤ mostAtoms ⌝ }
     ensures { λ r.
-        ⌜ ((ds ws : List ℕ) (rs : List Rule) → length rs ≡ rules
-        → r ≡ firstFailing (fieldChecks (boardIn atoms ds (now (atom .entry)) ws hypotheses rs) (rule head (lowBytes mostBody places)))) ⌝ }
+        ⌜ ((b : Board) → b .atoms ≡ atoms → AtomsOf (b .hypotheses) hypotheses → length (b .rules) ≡ rules
+        → r ≡ firstFailing (fieldChecks b (rule head (lowBytes mostBody places)))) ⌝ }
 {
-    if atoms <= head as usize {
+    let past = top(places);
+    if atoms <= wide(head) {
         return 4;
     }
-    if !below(places, atoms) {
+    if atoms < past {
         return 4;
     }
     if !ascend(places) {
         return 9;
     }
-    if is_among(atom, hypotheses, head) {
+    if member(hypotheses, head) {
         return 10;
     }
-    if !below(places, head as usize) {
+    if wide(head) < past {
         return 11;
     }
     if 256 <= rules {
@@ -120,55 +154,15 @@ pub(crate) fn rule_refusal(
     0
 }
 
-// The number of the check that the end record fails, 0 where it fails none: 32 walks over the hypotheses, at most some 41,400 basic
-// steps.
-fn end_refusal<'a>(
-    numbers: &'a [u8; 128],
-    weight: &'a [u32; 128],
-    hypotheses: usize,
-    declarations: usize,
-) -> u8
-    requires { ⌜ Declared (now numbers) (now weight) hypotheses declarations ⌝ }
+// The number of the first field check that a record fails, 0 where it fails none; of the end record nothing is asked here.
+pub(crate) fn field_refusal(atoms: usize, rules: usize, seen: Seen, found: Record) -> u8
     ensures { λ r.
-        ⌜ ((k : ℕ) (xs : List ℕ) (rs : List Rule)
-        → r ≡ firstFailing (fieldChecks (boardIn k (now (numbers .entry)) xs (now (weight .entry)) hypotheses rs) finish)) ⌝ }
-{
-    if product_passes(numbers, weight, hypotheses, declarations) {
-        return 8;
-    }
-    0
-}
-
-// The number of the first field check that a record fails, 0 where it fails none.
-pub(crate) fn field_refusal<'a>(
-    atoms: usize,
-    hypotheses: usize,
-    declarations: usize,
-    rules: usize,
-    numbers: &'a [u8; 128],
-    atom: &'a [u8; 128],
-    weight: &'a [u32; 128],
-    found: Record,
-) -> u8
-    requires { ⌜ Declared (now numbers) (now weight) hypotheses declarations ⌝ }
-    ensures { λ r.
-        ⌜ ((rs : List Rule) → length rs ≡ rules
-        → r ≡ firstFailing (fieldChecks (boardIn atoms (now (numbers .entry)) (now (atom .entry)) (now (weight .entry)) hypotheses rs)
-        (recordMeans found))) ⌝ }
+        ⌜ ((b : Board) → b .atoms ≡ atoms → length (b .rules) ≡ rules → SeenOf (b .hypotheses) seen → r ≡ fieldRefusal b (recordMeans found)) ⌝ }
 {
     match found {
         Record::Count(n) => count_refusal(n),
-        Record::Hypothesis(d, a, w) => hypothesis_refusal(
-            atoms,
-            hypotheses,
-            declarations,
-            numbers,
-            atom,
-            d,
-            a,
-            w,
-        ),
-        Record::Rule(head, places) => rule_refusal(atoms, hypotheses, rules, atom, head, places),
-        Record::End => end_refusal(numbers, weight, hypotheses, declarations),
+        Record::Hypothesis(d, a, w) => hypothesis_refusal(atoms, seen, d, a, w),
+        Record::Rule(head, places) => rule_refusal(atoms, seen.atoms, rules, head, places),
+        Record::End => 0,
     }
 }

@@ -5,32 +5,19 @@
 // The counts of basic steps below are for r rules, n hypotheses and a state of d atoms.
 use crate::Table;
 use crate::Told;
-use crate::accepted::declarations_of;
-use crate::accepted::fields_stand;
-use crate::weights::wide;
+use crate::accepted::is_table;
+use crate::walks::declarations_of;
+use crate::walks::is_among;
+use crate::walks::wide;
 ghost use mathlib.Core.Path.{_≡_};
-ghost use mathlib.Core.List.{List};
-ghost use Prim.Native.Nat.{ℕ, _<_, _≤_};
+ghost use mathlib.Core.List.{[]};
+ghost use Prim.Native.Nat.{_<_, _≤_};
 ghost use Rattle.board.specs.Sizes.{mostAtoms};
 ghost use Rattle.board.specs.Board.{declaration, declarations, declarationsIn, isAtomOf, isStateOf};
 ghost use Rattle.board.specs.EntryPoints.{toldMeans, yesOrNo};
 ghost use Rattle.board.specs.Table.{ruleIn, hypothesesIn};
-ghost use Rattle.board.specs.Holds.{inState, ruleHolds};
+ghost use Rattle.board.specs.Holds.{ruleHolds};
 ghost use Rattle.board.specs.Private.Remembered.{hypothesesAlone, lentHolds, SoundRules, Remembered};
-
-// Whether the state chooses the atom: at most some 5 d + 4 steps.
-pub(crate) fn in_state(state: &[u8], a: u8) -> bool
-    ensures { λ r. ⌜ r ≡ inState (now (state .entry)) a ⌝ }
-{
-    let mut i = 0;
-    while i < state.len() {
-        if state[i] == a {
-            return true;
-        }
-        i += 1;
-    }
-    false
-}
 
 // "An atom holds in a board state if it is chosen or if one of its rules holds." What is found is kept in `known`, a mark an atom: 1 it holds,
 // 2 it does not, 0 not asked yet. An atom that has its mark takes 5 steps. One that has none goes through the rules once and then has it, so with
@@ -57,7 +44,7 @@ fn atom_holds(
     if mark == 2 {
         return false;
     }
-    if in_state(state, a) {
+    if is_among(state, a) {
         known[at] = 1;
         return true;
     }
@@ -124,7 +111,7 @@ pub(crate) fn holds_in<'a>(
 // Whether some hypothesis of declaration `d` has the atom: at most some 7 n + 3 steps.
 fn is_choice(numbers: &[u8; 128], atom: &[u8; 128], hypotheses: usize, d: usize, a: u8) -> bool
     requires { ⌜ hypotheses ≤ mostAtoms ⌝ }
-    ensures { λ r. ⌜ ((weights : List ℕ) → r ≡ isAtomOf (declaration (hypothesesIn (now (numbers .entry)) (now (atom .entry)) weights hypotheses) d) a) ⌝ }
+    ensures { λ r. ⌜ r ≡ isAtomOf (declaration (hypothesesIn (now (numbers .entry)) (now (atom .entry)) [] hypotheses) d) a ⌝ }
 {
     let mut k = 0;
     while k < hypotheses {
@@ -148,8 +135,8 @@ pub(crate) fn is_state<'a>(
     state: &[u8],
 ) -> bool
     requires { ⌜ hypotheses ≤ mostAtoms ⌝ }
-    requires { ⌜ ((weights : List ℕ) → count ≡ declarationsIn (hypothesesIn (now numbers) (now atom) weights hypotheses)) ⌝ }
-    ensures { λ r. ⌜ ((weights : List ℕ) → r ≡ isStateOf (declarations (hypothesesAlone (hypothesesIn (now (numbers .entry)) (now (atom .entry)) weights hypotheses))) (now (state .entry))) ⌝ }
+    requires { ⌜ count ≡ declarationsIn (hypothesesIn (now numbers) [] [] hypotheses) ⌝ }
+    ensures { λ r. ⌜ r ≡ isStateOf (declarations (hypothesesAlone (hypothesesIn (now (numbers .entry)) (now (atom .entry)) [] hypotheses))) (now (state .entry)) ⌝ }
 {
     if state.len() != count {
         return false;
@@ -165,35 +152,24 @@ pub(crate) fn is_state<'a>(
 }
 
 // Does the atom hold in the board state, a choice of each declaration handed in as atoms in declaration order? Refuses with 20 a table that no file
-// loads to, with 25 what is no board state and with 22 an atom that is none, in that order. At most some 900,000 basic steps on any table, half of
-// them for 20. Its stack is the table that is handed in, some 3 KB, and at most 128 calls of the atom test within each other, measured at 96 bytes
+// loads to, with 25 what is no board state and with 22 an atom that is none, in that order. At most some 330,000 basic steps on any table, a
+// quarter of them for 20. Its stack is the table that is handed in, some 3 KB, and at most 128 calls of the atom test within each other, measured at 96 bytes
 // each, so some 16 KB in all.
 pub fn yes_or_no(t: Table, state: &[u8], atom: u8) -> Told
     ensures { λ r. ⌜ toldMeans r ≡ yesOrNo t (now (state .entry)) atom ⌝ }
 {
-    let atoms = t.atoms;
-    let n = t.hypotheses;
-    let rules = t.rules;
-    if !fields_stand(
-        atoms,
-        n,
-        rules,
-        &t.declaration,
-        &t.atom,
-        &t.weight,
-        &t.head,
-        &t.body,
-    ) {
+    if !is_table(t) {
         return Told::Refused(20);
     }
+    let n = t.hypotheses;
     let declarations = declarations_of(&t.declaration, n);
     if !is_state(&t.declaration, &t.atom, n, declarations, state) {
         return Told::Refused(25);
     }
-    if atoms <= wide(atom) {
+    if t.atoms <= wide(atom) {
         return Told::Refused(22);
     }
-    if holds_in(&t.head, &t.body, rules, state, atom) {
+    if holds_in(&t.head, &t.body, t.rules, state, atom) {
         return Told::Yes;
     }
     Told::No

@@ -3,7 +3,7 @@
 // - `record::read_record` reads one record of a board file, `load::load` a whole file into a `Table`;
 // - `accepted::is_table` tells whether some file loads to a table;
 // - `holding::yes_or_no` tells whether an atom holds in a board state;
-// - `facts` has the few facts of a table that a search asks for once.
+// - `facts` has the few facts of a table that the crates above ask for once.
 //
 // Its meaning is in `specs/`; every contract here is an equation with a definition of document 01 there.
 ghost use mathlib.Core.Path.{_≡_};
@@ -16,6 +16,7 @@ pub mod holding;
 pub mod load;
 mod places;
 pub mod record;
+mod walks;
 mod weights;
 
 // A board: the hypotheses and the rules in the order of the file, one array a field. Room past a count is zero.

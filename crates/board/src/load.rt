@@ -1,28 +1,36 @@
 // Loading a board file (document 01, "The board file").
 use crate::Loaded;
 use crate::Loading;
+use crate::Table;
+use crate::checks::Seen;
 use crate::checks::field_refusal;
+use crate::checks::nothing_seen;
+use crate::checks::seen_with;
 use crate::places::put;
 use crate::record::Read;
 use crate::record::Record;
 use crate::record::known_kind;
 use crate::record::read_record;
-use crate::weights::larger;
-use crate::weights::wide;
+use crate::walks::wide;
+use crate::weights::MOST_W;
+use crate::weights::weight_capped;
 use crate::zero_table;
 ghost use mathlib.Core.Path.{_≡_};
-ghost use Prim.Native.Nat.{ℕ};
-ghost use mathlib.Core.Bool.{_&&_};
+ghost use mathlib.Core.List.{List, []};
+ghost use Prim.Native.Nat.{ℕ, _≤_};
 ghost use lib.ListN.{length};
+ghost use Rattle.board.specs.Sizes.{mostAtoms};
 ghost use Rattle.board.specs.Answers.{refusedAt};
-ghost use Rattle.board.specs.Board.{Board};
-ghost use Rattle.board.specs.File.{knownKind};
-ghost use Rattle.board.specs.Load.{load, misplaced};
-ghost use Rattle.board.specs.EntryPoints.{readMeans, Refuses, LoadsAs};
+ghost use Rattle.board.specs.Board.{Board, declarationsIn};
+ghost use Rattle.board.specs.Load.{load, misplaced, misplacedAt};
+ghost use Rattle.board.specs.Table.{tableOf, hypothesesIn};
+ghost use Rattle.board.specs.EntryPoints.{readMeans, LoadsAs};
+ghost use Rattle.board.specs.Private.Seen.{SeenOf};
+ghost use Rattle.board.specs.Private.Taking.{numberIn, placeIn, passedRecord, ending};
 
 // A refused load: the number, the place, and the table whose every field is zero.
 fn refused(number: u8, place: usize) -> Loading
-    ensures { λ r. ⌜ Refuses r number place ⌝ }
+    ensures { λ r. ⌜ LoadsAs (refusedAt number place) r ⌝ }
 {
     Loading {
         answer: Loaded::Refused(number, place),
@@ -30,69 +38,98 @@ fn refused(number: u8, place: usize) -> Loading
     }
 }
 
-// A record of a known kind that may not stand here.
+// Whether a record of this kind may not stand here. At most 5 basic steps.
 fn misplaced_here(kind: u8, atoms: usize, rules: usize) -> bool
-    ensures { λ r. ⌜ ((b : Board) → b .atoms ≡ atoms → length (b .rules) ≡ rules → r ≡ (knownKind kind && misplaced b kind)) ⌝ }
+    ensures { λ r. ⌜ ((b : Board) → b .atoms ≡ atoms → length (b .rules) ≡ rules → r ≡ misplaced b kind) ⌝ }
 {
-    if !known_kind(kind) {
-        return false;
-    }
     if atoms == 0 {
         return kind != 1;
     }
-    if kind == 1 {
-        return true;
-    }
-    if kind == 2 {
-        return 0 < rules;
-    }
-    false
+    kind == 1 || kind == 2 && 0 < rules
 }
 
-// The refusal that reading a record answered. A record that was read is no refusal, and no caller hands one in; its arm is there because a match
-// needs it.
-fn refused_read(answer: Read) -> Loading
-    ensures { λ r. ⌜ ((number place : ℕ) → readMeans answer ≡ refusedAt number place → Refuses r number place) ⌝ }
+// Whether a record of a known kind stands at the place, and may not. At most 12 basic steps.
+fn misplaced_at(file: &[u8], at: usize, atoms: usize, rules: usize) -> bool
+    ensures { λ r. ⌜ ((b : Board) → b .atoms ≡ atoms → length (b .rules) ≡ rules → r ≡ misplacedAt (now (file .entry)) at b) ⌝ }
+{
+    at < file.len() && known_kind(file[at]) && misplaced_here(file[at], atoms, rules)
+}
+
+// The number of the refusal that reading a record answered; 0 where a record was read.
+fn number_in(answer: Read) -> u8
+    ensures { λ r. ⌜ r ≡ numberIn (readMeans answer) ⌝ }
 {
     match answer {
-        Read::Refused(number, place) => refused(number, place),
-        Read::At(_, place) => refused(1, place),
+        Read::At(_, _) => 0,
+        Read::Refused(number, _) => number,
     }
+}
+
+// The place that reading a record answered: the refusal's, or that of the next record.
+fn place_in(answer: Read) -> usize
+    ensures { λ r. ⌜ r ≡ placeIn (readMeans answer) ⌝ }
+{
+    match answer {
+        Read::At(_, next) => next,
+        Read::Refused(_, place) => place,
+    }
+}
+
+// What loading hands back at an end record at `at`, where the file has `len` bytes and the next record would stand at `next`: 8, then 3, are asked.
+// Some 2,000 basic steps.
+fn ended(t: Table, declarations: usize, at: usize, next: usize, len: usize) -> Loading
+    requires { ⌜ t .hypotheses ≤ mostAtoms ⌝ }
+    requires { ⌜ declarations ≤ 256 ⌝ }
+    requires { ⌜ declarations ≡ declarationsIn (hypothesesIn (t .declaration) [] [] (t .hypotheses)) ⌝ }
+    ensures { λ r.
+        ⌜ ((b : Board) (file : List ℕ) → t ≡ tableOf b → length file ≡ len → LoadsAs (ending file at next b) r) ⌝ }
+{
+    if MOST_W < weight_capped(&t.declaration, &t.weight, t.hypotheses, declarations) {
+        return refused(8, at);
+    }
+    if next < len {
+        return refused(3, next);
+    }
+    Loading {
+        answer: Loaded::Accepted,
+        table: t,
+    }
+}
+
+// The record at a place where it may stand and passes its field checks, and the place of the next; or the refusal. What an end record asks is left to
+// `ended`. At most some 270 basic steps.
+fn passed_record(file: &[u8], at: usize, atoms: usize, rules: usize, seen: Seen) -> Read
+    ensures { λ r.
+        ⌜ ((b : Board) → b .atoms ≡ atoms → length (b .rules) ≡ rules → SeenOf (b .hypotheses) seen → readMeans r ≡ passedRecord (now (file .entry)) at b) ⌝ }
+{
+    if misplaced_at(file, at, atoms, rules) {
+        return Read::Refused(3, at);
+    }
+    let answer = read_record(file, at);
+    let Read::At(found, _) = answer else {
+        return answer;
+    };
+    let number = field_refusal(atoms, rules, seen, found);
+    if number != 0 {
+        return Read::Refused(number, at);
+    }
+    answer
 }
 
 // Loads a board file: the table, or the number of the refusal and its place. A file is read up to its first failing record, and no more than 386 records
-// pass: 128 hypotheses at some 1,600 basic steps, 256 rules at some 1,000, and the end at some 41,500, so at most some 500,000 in all, however long the
-// file. The table is built in place and copied out once, some 3 KB of stack each.
+// pass: 128 hypotheses at some 200 basic steps, 256 rules at some 400, and the end at some 2,000, so at most some 130,000 in all, however long the
+// file. Some 12 KB of stack: the table in hand and its copies, 3 KB each.
 pub fn load(file: &[u8]) -> Loading
     ensures { λ r. ⌜ LoadsAs (load (now (file .entry))) r ⌝ }
 {
-    let len = file.len();
     let mut t = zero_table();
-    let mut declarations: usize = 0;
+    let mut seen = nothing_seen();
     let mut at: usize = 0;
     loop {
-        if at < len {
-            if misplaced_here(file[at], t.atoms, t.rules) {
-                return refused(3, at);
-            }
-        }
-        let answer = read_record(file, at);
+        let answer = passed_record(file, at, t.atoms, t.rules, seen);
         let Read::At(found, next) = answer else {
-            return refused_read(answer);
+            return refused(number_in(answer), place_in(answer));
         };
-        let number = field_refusal(
-            t.atoms,
-            t.hypotheses,
-            declarations,
-            t.rules,
-            &t.declaration,
-            &t.atom,
-            &t.weight,
-            found,
-        );
-        if number != 0 {
-            return refused(number, at);
-        }
         match found {
             Record::Count(n) => {
                 t.atoms = wide(n);
@@ -103,7 +140,7 @@ pub fn load(file: &[u8]) -> Loading
                 t.atom[i] = a;
                 t.weight[i] = w;
                 t.hypotheses = i + 1;
-                declarations = larger(declarations, wide(d) + 1);
+                seen = seen_with(seen, d, a);
             }
             Record::Rule(head, places) => {
                 let i = t.rules;
@@ -112,13 +149,7 @@ pub fn load(file: &[u8]) -> Loading
                 t.rules = i + 1;
             }
             Record::End => {
-                if next < len {
-                    return refused(3, next);
-                }
-                return Loading {
-                    answer: Loaded::Accepted,
-                    table: t,
-                };
+                return ended(t, seen.declarations, at, next, file.len());
             }
         }
         at = next;

@@ -1,33 +1,33 @@
 // The eight body places of a rule, held in one number, the first place in its low byte (document 01, "The board file": "255 is an empty place").
+use crate::walks::larger;
 ghost use mathlib.Core.Path.{_≡_};
-ghost use mathlib.Core.Bool.{not, _&&_};
+ghost use mathlib.Core.Bool.{_&&_};
 ghost use mathlib.Core.List.{_++_};
 ghost use Prim.Native.Nat.{_+_, _*_, _<_, _≤_};
-ghost use lib.Dec.{leb};
 ghost use lib.ListN.{length, take, drop};
-ghost use Rattle.sets.specs.Lists.{any, ascending};
+ghost use Rattle.sets.specs.Lists.{ascending};
 ghost use Rattle.board.specs.Sizes.{mostBody};
 ghost use Rattle.board.specs.File.{lowBytes};
 ghost use Rattle.board.specs.Load.{filled, filledFirst};
+ghost use Rattle.board.specs.Private.Filled.{topOf};
 
-// Is every filled place below the limit? Looks at the places from the first until one is not.
-// At most 8 turns of 7 basic steps, so some 60.
-pub(crate) fn below(places: u64, limit: usize) -> bool
-    ensures { λ r. ⌜ r ≡ not (any (leb limit) (filled (lowBytes mostBody places))) ⌝ }
+// One more than the highest filled place, 0 where none is filled.
+// 8 turns of 7 basic steps, so some 60.
+pub(crate) fn top(places: u64) -> usize
+    ensures { λ r. ⌜ r ≡ topOf (filled (lowBytes mostBody places)) ⌝ }
 {
     let mut rest = places;
     let mut left: usize = 8;
+    let mut past: usize = 0;
     while 0 < left {
         let place = (rest % 256) as usize;
         if place != 255 {
-            if limit <= place {
-                return false;
-            }
+            past = larger(past, place + 1);
         }
         rest = rest / 256;
         left -= 1;
     }
-    true
+    past
 }
 
 // Do the filled places come first, and in strictly ascending order? Each filled place has to be above the place before it, whether that

@@ -1,4 +1,6 @@
 // One record of a board file (document 01, "The board file").
+use crate::walks::wide32;
+use crate::walks::wide64;
 ghost use mathlib.Core.Path.{_≡_};
 ghost use Prim.Native.Nat.{_+_, _≤_};
 ghost use lib.ListN.{length, take, drop};
@@ -18,18 +20,6 @@ pub enum Record {
 pub enum Read {
     At(Record, usize),
     Refused(u8, usize),
-}
-
-fn wide(x: u8) -> u64
-    ensures { λ r. ⌜ r ≡ x ⌝ }
-{
-    x as u64
-}
-
-fn wide32(x: u8) -> u32
-    ensures { λ r. ⌜ r ≡ x ⌝ }
-{
-    x as u32
 }
 
 // How many bytes follow a kind byte.
@@ -53,7 +43,7 @@ pub(crate) fn eight_bytes(file: &[u8], at: usize) -> u64
     let mut i = 8;
     while 0 < i {
         i -= 1;
-        packed = packed * 256 + wide(file[at + i]);
+        packed = packed * 256 + wide64(file[at + i]);
     }
     packed
 }
@@ -83,10 +73,7 @@ fn read_body(file: &[u8], kind: u8, at: usize) -> Record
 pub(crate) fn known_kind(kind: u8) -> bool
     ensures { λ r. ⌜ r ≡ knownKind kind ⌝ }
 {
-    if kind < 1 {
-        return false;
-    }
-    kind <= 4
+    1 <= kind && kind <= 4
 }
 
 // Reads the record at a place of a board file. A place past the end counts as the file's length.

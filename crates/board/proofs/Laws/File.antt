@@ -83,11 +83,6 @@ pub known : (kind : ℕ) → 1 ≤ kind → kind ≤ 4 → knownKind kind ≡ tr
 unfolding knownKind
 known kind l h = simp (le-leb _ _ l, le-leb _ _ h)
 
--- a kind below 1 is not
-pub unknown-low : (kind : ℕ) → kind < 1 → knownKind kind ≡ false
-unfolding knownKind
-unknown-low kind h = simp (lt-leb _ _ h)
-
 -- a kind above 4 is not
 pub unknown-high : (kind : ℕ) → 4 < kind → knownKind kind ≡ false
 unfolding knownKind

@@ -1,33 +1,36 @@
--- Laws of loading: a record that no field check refuses leaves the board read so far one that some file gives, and so every loaded board passes.
--- Assumes nothing.
+-- Laws of the board read so far: the parts of what it passes, and that a record that no field check refuses leaves it such a board. Assumes nothing.
 pub mod Checks
-pub mod Filled
+pub mod Each
 pub mod Hypotheses
 pub mod Loaded
-pub mod Places
+pub mod Passed
+pub mod Passes
 pub mod Progress
 pub mod Reading
 pub mod Room
 pub mod Rules
+pub mod Seen
 pub mod Steps
 use Prim.Native.Nat.{ℕ, _^_, _<_}
-use mathlib.Core.Path.{_≡_, sym}
-use mathlib.Core.Bool.{true, not, _&&_, and-true, and-assoc}
-use mathlib.Core.List.{List, [], _∷_, _++_, append-nil}
+use native.Mathlib.Omega.{arith}
+use mathlib.Core.Path.{_≡_}
+use mathlib.Core.Bool.{true, not, _&&_}
+use mathlib.Core.List.{List, []}
 use lib.ListN.{length}
-use lib.Seq.{append-snoc}
 use lib.Dec.{T, leb, eqb, lt→ltb, le→leb, eqb→eq}
 use Rattle.sets.specs.Lists.{isEmpty}
-use Rattle.sets.proofs.Laws.Lists.{keep-shorter, empty-nil}
+use Rattle.sets.proofs.Laws.Lists.{all-of, keep-shorter, empty-nil}
 use Rattle.sets.proofs.Laws.Tests.{and-both, and-left, and-right}
 use Rattle.board.specs.Sizes.{mostBody, emptyPlace}
 use Rattle.board.specs.Board.{Board, Hypothesis, Rule, isHypothesis}
-use Rattle.board.specs.File.{Record, count, hypothesis, rule, finish}
+use Rattle.board.specs.File.{Record, count, hypothesis, rule}
 use Rattle.board.specs.Load.{noBoard, firstFailing, fieldChecks, filled, taking}
-use Rattle.board.proofs.Laws.Load.Checks.{rule-atoms, rule-filledFirst}
+use Rattle.board.proofs.Laws.Load.Each.{each-snoc}
+use Rattle.board.proofs.Laws.Load.Checks.{RuleChecked, rule-checked}
 use Rattle.board.specs.Table.{placesOf}
-use Rattle.board.specs.Private.Passes.{recordPasses, hypothesisPasses, hypothesesPass, rulePasses, rulesPass, soFar, boardPasses}
-use Rattle.board.proofs.Laws.Table.Places.{placesOf-filled}
+use Rattle.board.specs.Private.Passes.{recordPasses, eachPasses, hypothesisPasses, hypothesesPass}
+use Rattle.board.proofs.Laws.Load.Passes.{rulePasses, rulesPass, soFar}
+use Rattle.board.proofs.Laws.Filled.{placesOf-filled}
 
 -- a record passes exactly if no check fails
 pub recordPasses-zero : (b : Board) (r : Record) → T (recordPasses b r) → firstFailing (fieldChecks b r) ≡ 0
@@ -38,26 +41,6 @@ recordPasses-zero b r h = eqb→eq _ 0 h
 pub zero-recordPasses : (b : Board) (r : Record) → firstFailing (fieldChecks b r) ≡ 0 → T (recordPasses b r)
 unfolding recordPasses
 zero-recordPasses b r e = rw e tt
-
--- ---- one hypothesis more, one rule more
-
--- one hypothesis more passes exactly if it passes after all before it
-pub hypothesesPass-snoc : (atoms : ℕ) (before hs : List Hypothesis) (h : Hypothesis)
-    → hypothesesPass atoms before (hs ++ (h ∷ [])) ≡ (hypothesesPass atoms before hs && hypothesisPasses atoms (before ++ hs) h)
-unfolding hypothesesPass
-hypothesesPass-snoc atoms before [] h = rw (append-nil before) (and-true _)
-hypothesesPass-snoc atoms before (k ∷ hs) h =
-    rw (hypothesesPass-snoc atoms (before ++ (k ∷ [])) hs h, append-snoc before k hs)
-    (sym (and-assoc (hypothesisPasses atoms before k) (hypothesesPass atoms (before ++ (k ∷ [])) hs) (hypothesisPasses atoms (before ++ (k ∷ hs)) h)))
-
--- one rule more passes exactly if it passes after all before it
-pub rulesPass-snoc : (atoms : ℕ) (hypotheses : List Hypothesis) (before rs : List Rule) (r : Rule)
-    → rulesPass atoms hypotheses before (rs ++ (r ∷ [])) ≡ (rulesPass atoms hypotheses before rs && rulePasses atoms hypotheses (before ++ rs) r)
-unfolding rulesPass
-rulesPass-snoc atoms hypotheses before [] r = rw (append-nil before) (and-true _)
-rulesPass-snoc atoms hypotheses before (k ∷ rs) r =
-    rw (rulesPass-snoc atoms hypotheses (before ++ (k ∷ [])) rs r, append-snoc before k rs)
-    (sym (and-assoc (rulePasses atoms hypotheses before k) (rulesPass atoms hypotheses (before ++ (k ∷ [])) rs) (rulePasses atoms hypotheses (before ++ (k ∷ rs)) r)))
 
 -- ---- the parts of a board read so far
 
@@ -88,29 +71,11 @@ soFar-of b a h r =
     and-both (recordPasses noBoard (count (b .atoms)) && hypothesesPass (b .atoms) [] (b .hypotheses)) _
     (and-both (recordPasses noBoard (count (b .atoms))) _ (zero-recordPasses noBoard (count (b .atoms)) a) h) r
 
--- ---- the parts of a board that passes
-
-module _ (b : Board) (p : T (boardPasses b)) where
-  -- it is one read so far
-  pub boardPasses-soFar : T (soFar b)
-  unfolding boardPasses
-  boardPasses-soFar = and-left (soFar b) _ p
-
-  -- the end record passes
-  pub boardPasses-finish : firstFailing (fieldChecks b finish) ≡ 0
-  unfolding boardPasses
-  boardPasses-finish = recordPasses-zero b finish (and-right (soFar b) _ p)
-
--- the parts make the whole
-pub boardPasses-of : (b : Board) → T (soFar b) → firstFailing (fieldChecks b finish) ≡ 0 → T (boardPasses b)
-unfolding boardPasses
-boardPasses-of b h c = and-both (soFar b) _ h (zero-recordPasses b finish c)
-
 -- ---- one record more
 
 -- the count, first of all
 pub soFar-count : (n : ℕ) → firstFailing (fieldChecks noBoard (count n)) ≡ 0 → T (soFar (taking noBoard (count n)))
-unfolding taking noBoard hypothesesPass rulesPass
+unfolding taking noBoard eachPasses
 soFar-count n c = soFar-of (taking noBoard (count n)) c tt tt
 
 -- a hypothesis that no check refuses passes; rules are not asked for in its checks
@@ -123,20 +88,21 @@ hypothesisPasses-of b h c l =
 
 -- no rules pass
 no-rules : (atoms : ℕ) (hypotheses : List Hypothesis) → T (rulesPass atoms hypotheses [] [])
-unfolding rulesPass
+unfolding eachPasses
 no-rules atoms hypotheses = tt
 
 -- a rule that no check refuses passes; the places of its record are those of its body
-rulePasses-of : (b : Board) (h : ℕ) (places : List ℕ) → length places ≡ 8 → firstFailing (fieldChecks b (rule h places)) ≡ 0
+pub rulePasses-of : (b : Board) (h : ℕ) (places : List ℕ) → length places ≡ 8 → firstFailing (fieldChecks b (rule h places)) ≡ 0
     → T (rulePasses (b .atoms) (b .hypotheses) (b .rules) (record { head = h; body = filled places }))
 unfolding rulePasses filled
 rulePasses-of b h places l c =
     let new : Rule = record { head = h; body = filled places } in
+    let checked : RuleChecked b h places = rule-checked b h places c in
     and-both (recordPasses b (rule h (placesOf new)) && leb (length (filled places)) mostBody) _
     (and-both (recordPasses b (rule h (placesOf new))) _
-    (zero-recordPasses b (rule h _) (rw (placesOf-filled h places l (rule-filledFirst b h places c)) c))
+    (zero-recordPasses b (rule h _) (rw (placesOf-filled h places l (checked .first)) c))
     (le→leb (length (filled places)) 8 (rw l at (keep-shorter (λ p. not (eqb p emptyPlace)) places))))
-    (rule-atoms b h places c)
+    (all-of _ (filled places) (λ a m. lt→ltb a (b .atoms) (omega (arith, checked .bodyBelow a m))))
 
 -- a hypothesis, while there are no rules
 pub soFar-hypothesis : (b : Board) (d a w : ℕ) → T (soFar b) → isEmpty (b .rules) ≡ true → firstFailing (fieldChecks b (hypothesis d a w)) ≡ 0
@@ -144,7 +110,7 @@ pub soFar-hypothesis : (b : Board) (d a w : ℕ) → T (soFar b) → isEmpty (b 
 unfolding taking
 soFar-hypothesis b d a w h e c l =
     soFar-of (taking b (hypothesis d a w)) (soFar-atoms b h)
-    (rw (hypothesesPass-snoc (b .atoms) [] (b .hypotheses) new) (and-both (hypothesesPass (b .atoms) [] (b .hypotheses)) _ (soFar-hypotheses b h) (hypothesisPasses-of b new c l)))
+    (rw (each-snoc (hypothesisPasses (b .atoms)) [] (b .hypotheses) new) (and-both (hypothesesPass (b .atoms) [] (b .hypotheses)) _ (soFar-hypotheses b h) (hypothesisPasses-of b new c l)))
     (rw (empty-nil (b .rules) e) (no-rules (b .atoms) _))
   where
     new : Hypothesis
@@ -156,7 +122,7 @@ pub soFar-rule : (b : Board) (h : ℕ) (places : List ℕ) → T (soFar b) → l
 unfolding taking
 soFar-rule b h places g l c =
     soFar-of (taking b (rule h places)) (soFar-atoms b g) (soFar-hypotheses b g)
-    (rw (rulesPass-snoc (b .atoms) (b .hypotheses) [] (b .rules) new) (and-both (rulesPass (b .atoms) (b .hypotheses) [] (b .rules)) _ (soFar-rules b g) (rulePasses-of b h places l c)))
+    (rw (each-snoc (rulePasses (b .atoms) (b .hypotheses)) [] (b .rules) new) (and-both (rulesPass (b .atoms) (b .hypotheses) [] (b .rules)) _ (soFar-rules b g) (rulePasses-of b h places l c)))
   where
     new : Rule
     new = record { head = h; body = filled places }

@@ -3,14 +3,17 @@
 -- Assumes nothing.
 use mathlib.Core.Path.{_≡_}
 use mathlib.Core.Bool.{Bool, true, false}
-use mathlib.Core.List.{List, []}
+use mathlib.Core.List.{List, [], List·Memᴰ}
 use Prim.Native.Nat.{ℕ, _*_, _≤_, _<_}
 use lib.ListN.{length, getD}
 use Rattle.board.specs.Sizes.{mostAtoms, mostRules, mostBody}
 use Rattle.board.specs.Board.{Board, Rule, Hypothesis}
 use Rattle.board.specs.Holds.{holds, inState}
-use Rattle.board.specs.Accepted.{BodiesBelow}
 use Rattle.board.specs.Table.{rulesIn}
+
+-- "Body atoms are below the head": of these rules alone, as the laws of holding ask it too
+abbrev pub BodiesBelow : List Rule → Type 0
+BodiesBelow rules = (r : Rule) → List·Memᴰ r rules → (a : ℕ) → List·Memᴰ a (r .body) → a < r .head
 
 -- a board that has these rules and nothing else
 abbrev pub rulesAlone : List Rule → Board

@@ -1,9 +1,10 @@
 -- Laws of `areBytes`, the test of a list's elements for being bytes, below 256: what it says of an element, and which lists pass. Assumes nothing.
 use Prim.Native.Nat.{ℕ, zero, suc, _+_, _^_, _<_}
 use native.Mathlib.Omega.{arith}
-use mathlib.Core.List.{List, [], _∷_, _++_, map, flatten}
+use mathlib.Core.Path.{refl}
+use mathlib.Core.List.{List, [], _∷_, _++_, map, flatten, List·Memᴰ, List·Memᴰ·head, List·Memᴰ·tail}
 use lib.Dec.{T, ltb, lt→ltb, ltb→lt}
-use lib.ListN.{length, getD}
+use lib.ListN.{getD}
 use lib.Pow.{areBytes}
 use Rattle.sets.specs.Lists.{all}
 use Rattle.sets.proofs.Laws.Tests.{and-both, and-left, and-right}
@@ -34,12 +35,10 @@ areBytes-all (x ∷ xs) t =
     and-both (ltb x 256) (areBytes xs) (and-left (ltb x 256) (all (λ y. ltb y 256) xs) t) (areBytes-all xs (and-right (ltb x 256) (all (λ y. ltb y 256) xs) t))
 
 -- pieces of bytes make bytes
-pub areBytes-flatten {ℓ} : {A : Type ℓ} (f : A → List ℕ) (d : A) (xs : List A)
-    → ((i : ℕ) → i < length xs → T (areBytes (f (getD xs i d)))) → T (areBytes (flatten (map f xs)))
+pub areBytes-flatten {ℓ} : {A : Type ℓ} (f : A → List ℕ) (xs : List A) → ((x : A) → List·Memᴰ x xs → T (areBytes (f x))) → T (areBytes (flatten (map f xs)))
 unfolding flatten
-areBytes-flatten f d [] h = tt
-areBytes-flatten f d (x ∷ xs) h =
-    areBytes-append (f x) (flatten (map f xs)) (h 0 (omega arith)) (areBytes-flatten f d xs (λ i l. h (suc i) (omega arith)))
+areBytes-flatten f [] h = tt
+areBytes-flatten f (x ∷ xs) h = areBytes-append (f x) (flatten (map f xs)) (h x (List·Memᴰ·head refl)) (areBytes-flatten f xs (λ y m. h y (List·Memᴰ·tail m)))
 
 -- a weight of three bytes is below 2 ^ 24
 pub threeBytes-lt : (file : List ℕ) → T (areBytes file) → (at : ℕ) → threeBytes file at < 2 ^ 24

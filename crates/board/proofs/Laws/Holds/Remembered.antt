@@ -1,25 +1,29 @@
--- Laws of what holds by the rules that are lent, in terms of places, and of the answers found so far. Assumes nothing.
-pub mod Tables
+-- Laws of what holds by the rules that are lent, rule by rule and body place by body place, and of the answers found so far. Assumes nothing.
 use Prim.Native.Nat.{ℕ, _+_, _*_, _≤_, _<_}
 use native.Mathlib.Omega.{arith}
 use native.Mathlib.Decide.{decLt, ℕ-discrete}
 use mathlib.Core.Path.{_≡_, sym, ap, _∙_}
 use mathlib.Core.Bool.{Bool, true, false, _||_, or-true}
 use mathlib.Core.List.{List, List·Memᴰ}
-use lib.Dec.{T-not, not-T, eqb, eqb→eq, eqb-refl}
+use lib.Dec.{T-not, not-T, eqb, eqb→eq, eqb-refl, T}
 use lib.ListN.{length, getD, drop, set, replicate, length-take, length-drop, length-replicate, getD-replicate, List·getD-eq-default}
 use lib.Seq.{getD-take, getD-drop, getD-set-same, getD-set-other, set-out}
 use Rattle.sets.specs.Lists.{any, below}
 use Rattle.sets.proofs.Laws.Lists.{all-at, all-of, any-map, keep-of, keep-at}
-use Rattle.sets.proofs.Laws.Lists.Places.{at-place, place-of, any-below, none-below}
+use Rattle.sets.proofs.Laws.Lists.Indices.{at-index, index-of, any-below, none-below}
 use Rattle.sets.proofs.Laws.Tests.{T-of-true, true-of-T, false-of-T, and-both, and-left, and-right}
-use Rattle.board.specs.Sizes.{mostBody, emptyPlace}
+use Rattle.board.specs.Sizes.{mostBody, emptyPlace, mostRules}
 use Rattle.board.specs.Load.{filled}
-use Rattle.board.specs.Table.{placesIn, ruleIn, rulesIn}
+use Rattle.board.specs.Table.{placesIn, ruleIn, rulesIn, boardOf, isTable}
 use Rattle.board.proofs.Laws.Lent.{rulesIn-of}
 use Rattle.board.specs.Holds.{ruleHolds, inState}
 use Rattle.board.proofs.Laws.Holds.{ruleGives, holds-step}
 use Rattle.board.specs.Private.Remembered.{rulesAlone, lentHolds, SoundRules, RightMark, Remembered}
+use Rattle.board.proofs.Laws.Accepted.{accepted-bodies-below}
+use Rattle.board.proofs.Laws.Table.{isTable-board}
+use Rattle.board.proofs.Laws.Table.Fields.{isTable-stands}
+use Rattle.board.proofs.Laws.Table.Fields.Parts.{sizes-parts}
+use Rattle.board.specs.declared.Table.{Table}
 
 -- ---- the answers found so far
 
@@ -60,7 +64,7 @@ module _ (head body : List ℕ) (i : ℕ) where
   filled-here room k l f =
       let size : length (placesIn body i) ≡ mostBody = simp (length-take, length-drop) (omega arith) in
       let here : getD (placesIn body i) k 0 ≡ getD body (mostBody * i + k) 0 = rw (getD-take, getD-drop) in
-      keep-of _ (rw here at (at-place (placesIn body i) k 0 (omega arith))) (not-T (eqb (getD body (mostBody * i + k) 0) emptyPlace) (λ t. f (eqb→eq _ emptyPlace t)))
+      keep-of _ (rw here at (at-index (placesIn body i) k 0 (omega arith))) (not-T (eqb (getD body (mostBody * i + k) 0) emptyPlace) (λ t. f (eqb→eq _ emptyPlace t)))
 
   -- a body atom stands at a filled place
   pub filled-at : {x : ℕ} → List·Memᴰ x (ruleIn head body i .body) → (k : ℕ) × (k < mostBody) × (getD body (mostBody * i + k) 0 ≡ x) × (x ≡ emptyPlace → ⊥)
@@ -68,7 +72,7 @@ module _ (head body : List ℕ) (i : ℕ) where
   filled-at {x} m =
       let places = placesIn body i in
       let (mem, full) = keep-at _ places m in
-      let (k, l, e) = place-of 0 mem in
+      let (k, l, e) = index-of 0 mem in
       let short : k < mostBody = omega (arith, length-take mostBody (drop (mostBody * i) body)) in
       (k, short, sym (getD-take mostBody (drop (mostBody * i) body) k 0 short ∙ getD-drop (mostBody * i) body k 0) ∙ e, λ q. T-not (eqb x emptyPlace) full (rw q (eqb-refl emptyPlace)))
 
@@ -93,19 +97,19 @@ lentGives head body n state a i = ruleGives (lentHolds head body n state) a (rul
 
 module _ (head body : List ℕ) (n : ℕ) (state : List ℕ) (sound : SoundRules head body n) (a : ℕ) where
   -- an atom holds if it is chosen or if one of the first n rules gives it
-  by-place : lentHolds head body n state a ≡ (inState state a || any (lentGives head body n state a) (below n))
+  by-index : lentHolds head body n state a ≡ (inState state a || any (lentGives head body n state a) (below n))
   unfolding rulesIn
-  by-place = holds-step (inState state) (rulesAlone (rulesIn head body n)) a (sound .low) ∙ ap (_||_ (inState state a)) (any-map _ _ (below n))
+  by-index = holds-step (inState state) (rulesAlone (rulesIn head body n)) a (sound .low) ∙ ap (_||_ (inState state a)) (any-map _ _ (below n))
 
   -- a chosen atom holds
   pub lent-chosen : true ≡ inState state a → true ≡ lentHolds head body n state a
-  lent-chosen e = rw (by-place, ← e)
+  lent-chosen e = rw (by-index, ← e)
 
   -- an atom with a rule that holds, holds
   pub lent-rule : (i : ℕ) → i < n → getD head i 0 ≡ a → true ≡ ruleHolds (lentHolds head body n state) (ruleIn head body i) → true ≡ lentHolds head body n state a
   lent-rule i l e f =
       let gives = any-below (lentGives head body n state a) n i l (and-both (eqb (getD head i 0) a) _ (rw e (eqb-refl a)) (T-of-true (sym f))) in
-      rw (by-place, gives, or-true)
+      rw (by-index, gives, or-true)
 
   -- an atom that is not chosen and has no rule that holds, does not hold
   pub lent-none : false ≡ inState state a
@@ -113,7 +117,7 @@ module _ (head body : List ℕ) (n : ℕ) (state : List ℕ) (sound : SoundRules
   lent-none e h =
       let none = none-below (lentGives head body n state a) n (λ i l t. let own : Bool = eqb (getD head i 0) a in
       rw (← h i l (eqb→eq (getD head i 0) a (and-left own _ t))) at (and-right own _ t)) in
-      rw (by-place, ← e, none)
+      rw (by-index, ← e, none)
 
 -- a filled place of a rule has an atom below the rule's head
 module _ (head body : List ℕ) (n : ℕ) (sound : SoundRules head body n) (i : ℕ) (l : i < n) where
@@ -125,3 +129,18 @@ module _ (head body : List ℕ) (n : ℕ) (sound : SoundRules head body n) (i : 
   pub lent-low : (k : ℕ) → k < mostBody → (getD body (mostBody * i + k) 0 ≡ emptyPlace → ⊥) → getD body (mostBody * i + k) 0 < getD head i 0
   lent-low k j f =
       sound .low (ruleIn head body i) (rulesIn-of head body n i l) _ (filled-here head body i lent-room k j f)
+
+-- ---- a table that some file loads to
+
+-- the rules of a table that passes are sound
+pub table-sound : (t : Table) → T (isTable t) → length (t .body) ≡ mostBody * mostRules → SoundRules (t .head) (t .body) (t .rules)
+unfolding boardOf
+table-sound t s long =
+    let b = isTable-board t s in
+    let size = sizes-parts t (isTable-stands t s .sizes) in
+    record {
+      few = omega (arith, size);
+      room = omega (arith, size);
+      heads = λ i h. omega (arith, b .rule _ (rulesIn-of (t .head) (t .body) (t .rules) i h) .headBelow);
+      low = accepted-bodies-below b;
+    }

@@ -1,20 +1,15 @@
 -- Hypotheses in lent arrays that pass their checks one after another: the first ones pass where more do, and one more passes by its own check.
 -- Assumes nothing.
 use mathlib.Core.Path.{_≡_, sym, ap, _∙_}
-use Prim.Native.Nat.{ℕ, zero, suc, _^_, _<_}
+use Prim.Native.Nat.{ℕ, zero, suc, _<_}
 use native.Mathlib.Omega.{arith}
 use native.Mathlib.Decide.{decLt}
 use mathlib.Core.Bool.{Bool, false, _&&_}
 use mathlib.Core.List.{List, []}
 use lib.Dec.{T}
-use lib.ListN.{getD}
 use Rattle.sets.proofs.Laws.Tests.{and-both, and-left, and-right, false-of-T}
-use Rattle.board.specs.File.{hypothesis}
-use Rattle.board.specs.Load.{firstFailing, fieldChecks}
-use Rattle.board.proofs.Laws.Load.Hypotheses.{hypothesisPasses-zero, hypothesisPasses-weight}
-use Rattle.board.proofs.Laws.Load.{hypothesesPass-snoc, hypothesisPasses-of}
+use Rattle.board.proofs.Laws.Load.Each.{each-snoc}
 use Rattle.board.specs.Private.Passes.{hypothesisPasses, hypothesesPass}
-use Rattle.board.specs.Table.{boardIn}
 use Rattle.board.specs.Table.{hypothesisIn, hypothesesIn}
 use Rattle.board.proofs.Laws.Lent.{hypothesesIn-suc}
 
@@ -29,7 +24,7 @@ module _ (atoms : ℕ) (ds xs ws : List ℕ) where
 
   -- the first ones and one more
   pub firstPass-suc : (i : ℕ) → firstPass (suc i) ≡ (firstPass i && nextPasses i)
-  firstPass-suc i = ap (hypothesesPass atoms []) (hypothesesIn-suc ds xs ws i) ∙ hypothesesPass-snoc atoms [] (hypothesesIn ds xs ws i) (hypothesisIn ds xs ws i)
+  firstPass-suc i = ap (hypothesesPass atoms []) (hypothesesIn-suc ds xs ws i) ∙ each-snoc (hypothesisPasses atoms) [] (hypothesesIn ds xs ws i) (hypothesisIn ds xs ws i)
 
   -- one more passes, so they all do
   pub firstPass-more : (i : ℕ) → T (firstPass i) → T (nextPasses i) → T (firstPass (suc i))
@@ -48,17 +43,3 @@ module _ (atoms : ℕ) (ds xs ws : List ℕ) where
   -- one that fails
   pub firstPass-fails : (i n : ℕ) → i < n → (T (nextPasses i) → ⊥) → false ≡ firstPass n
   firstPass-fails i n h f = sym (false-of-T (firstPass n) (λ t. f (firstPass-next i n h t)))
-
-  -- the check of one
-  pub nextPasses-of : (i : ℕ) → getD ws i 0 < 2 ^ 24
-      → firstFailing (fieldChecks (boardIn atoms ds xs ws i []) (hypothesis (getD ds i 0) (getD xs i 0) (getD ws i 0))) ≡ 0 → T (nextPasses i)
-  nextPasses-of i w e = hypothesisPasses-of (boardIn atoms ds xs ws i []) (hypothesisIn ds xs ws i) e w
-
-  -- what the check of one says: its weight has 3 bytes ..
-  pub nextPasses-weight : (i : ℕ) → T (nextPasses i) → getD ws i 0 < 2 ^ 24
-  nextPasses-weight i t = hypothesisPasses-weight atoms (hypothesesIn ds xs ws i) (hypothesisIn ds xs ws i) t
-
-  -- .. and no check of its record fails
-  pub nextPasses-check : (i : ℕ) → T (nextPasses i)
-      → firstFailing (fieldChecks (boardIn atoms ds xs ws i []) (hypothesis (getD ds i 0) (getD xs i 0) (getD ws i 0))) ≡ 0
-  nextPasses-check i t = hypothesisPasses-zero atoms (hypothesesIn ds xs ws i) (hypothesisIn ds xs ws i) t

@@ -1,19 +1,22 @@
--- What it says of a record that no field check of it fails: each check as a plain fact. Assumes nothing.
+-- What it says of a record that no field check of it fails, each check as a plain fact; and a record of which these facts hold fails none.
+-- Assumes nothing.
 use Prim.Native.Nat.{ℕ, suc, _≤_, _<_}
 use native.Mathlib.Omega.{arith}
 use mathlib.Core.Path.{_≡_, refl}
 use mathlib.Core.Logic.{_⊎_, inl, inr}
-use mathlib.Core.Bool.{Bool, true, false, not, _&&_, _||_}
-use mathlib.Core.List.{List, _∷_}
+use mathlib.Core.Bool.{Bool, true, false, _&&_, _||_, or-true}
+use mathlib.Core.List.{List, _∷_, List·Memᴰ}
 use lib.ListN.{length}
-use lib.Dec.{T, leb, ltb, eqb, lt→ltb}
-use borrow.Author.Tests.{ltb-false, leb-false, eqb-true, eqb-false, not-false}
-use Rattle.sets.specs.Lists.{any, all, ascending}
-use Rattle.sets.proofs.Laws.Lists.{all-of, none-at}
-use Rattle.sets.proofs.Laws.Tests.{T-of-true, and-left, and-right, or-false-left, or-false-right}
+use lib.Dec.{T, leb, eqb, leb→le}
+use borrow.Author.Tests.{ltb-false, leb-false, eqb-false, not-false, le-ltb, lt-leb, eq-eqb, ne-eqb}
+use Rattle.sets.specs.Lists.{any, ascending}
+use Rattle.sets.proofs.Laws.Lists.{any-none, none-at}
+use Rattle.sets.proofs.Laws.Tests.{T-of-true, true-of-T, and-left, and-right, or-false-left, or-false-right}
 use Rattle.board.specs.Sizes.{mostAtoms, mostDeclarations, mostHypotheses, mostRules, mostW}
-use Rattle.board.specs.Board.{Board, declarationsIn, declaration, isHypothesis, W}
+use Rattle.board.specs.Board.{Board, declaration, isHypothesis, W}
 use Rattle.board.specs.File.{count, hypothesis, rule, finish}
+use Rattle.board.specs.Private.Seen.{Follows}
+use Rattle.board.proofs.Laws.Load.Seen.{follows-of}
 use Rattle.board.specs.Load.{Check, firstFailing, fieldChecks, filled, filledFirst}
 
 -- where no check fails, the first does not, and none of the others
@@ -22,129 +25,128 @@ unfolding firstFailing
 passed k true rest e = absurd (omega arith)
 passed k false rest e = (refl, e)
 
--- a test that none is at n or above puts all below n
-below-all : (n : ℕ) (xs : List ℕ) → any (leb n) xs ≡ false → T (all (λ a. ltb a n) xs)
-below-all n xs h = all-of (λ a. ltb a n) xs (λ a m. lt→ltb a n (leb-false n a (none-at (leb n) h m)))
+-- where all are below n, none is at n or above
+none-above : (n : ℕ) (xs : List ℕ) → ((a : ℕ) → List·Memᴰ a xs → a < n) → any (leb n) xs ≡ false
+none-above n xs h = any-none (leb n) xs (λ a m t. omega (arith, h a m, leb→le n a t))
 
 -- ---- the count
 
-module _ (b : Board) (n : ℕ) (c : firstFailing (fieldChecks b (count n)) ≡ 0) where
-  -- the one check of a count
-  count-check : (eqb n 0 || ltb mostAtoms n) ≡ false
-  unfolding fieldChecks
-  count-check = passed 3 _ _ c .0
+-- "1 to 128 atoms"
+pub count-checked : (b : Board) (n : ℕ) → firstFailing (fieldChecks b (count n)) ≡ 0 → (1 ≤ n) × (n ≤ 128)
+unfolding fieldChecks
+count-checked b n c =
+    let (p, rest) = passed 3 _ _ c in
+    (omega (arith, eqb-false n 0 (or-false-left (eqb n 0) _ p)), ltb-false mostAtoms n (or-false-right (eqb n 0) _ p))
 
-  -- "1 to 128 atoms"
-  pub count-positive : 1 ≤ n
-  count-positive = omega (arith, eqb-false n 0 (or-false-left (eqb n 0) _ count-check))
-
-  -- .. and no more
-  pub count-room : n ≤ 128
-  count-room = ltb-false mostAtoms n (or-false-right (eqb n 0) _ count-check)
+-- a count of 1 to 128
+pub count-passes : (b : Board) (n : ℕ) → 1 ≤ n → n ≤ 128 → firstFailing (fieldChecks b (count n)) ≡ 0
+unfolding fieldChecks firstFailing
+count-passes b n l h = rw (ne-eqb n 0 (λ e. omega arith), le-ltb mostAtoms n h)
 
 -- ---- a hypothesis
 
-module _ (b : Board) (d a w : ℕ) (c : firstFailing (fieldChecks b (hypothesis d a w)) ≡ 0) where
+-- no check of its record fails
+pub record HypothesisChecked (b : Board) (d a w : ℕ) : Type 0 where
   -- the atom is below the count
-  pub hypothesis-atom : a < b .atoms
-  unfolding fieldChecks
-  hypothesis-atom = leb-false (b .atoms) a (passed 3 _ _ c .0)
-
-  -- the check of the declaration
-  after-4 : (leb mostDeclarations d || not (eqb (suc d) (declarationsIn (b .hypotheses)) || eqb d (declarationsIn (b .hypotheses)))) ≡ false
-  unfolding fieldChecks
-  after-4 = passed 4 _ _ (passed 3 _ _ c .1) .0
-
+  pub atomBelow : a < b .atoms
   -- "0 to 32 declarations"
-  pub hypothesis-declaration : d < 32
-  hypothesis-declaration = leb-false mostDeclarations d (or-false-left (leb mostDeclarations d) _ after-4)
-
+  pub declarationRoom : d < 32
   -- the declaration is the last one or the next
-  pub hypothesis-step : (suc d ≡ declarationsIn (b .hypotheses)) ⊎ (d ≡ declarationsIn (b .hypotheses))
-  hypothesis-step = go (eqb (suc d) (declarationsIn (b .hypotheses))) refl (not-false _ (or-false-right (leb mostDeclarations d) _ after-4))
-    where
-      go : (t : Bool) → eqb (suc d) (declarationsIn (b .hypotheses)) ≡ t → (t || eqb d (declarationsIn (b .hypotheses))) ≡ true
-          → (suc d ≡ declarationsIn (b .hypotheses)) ⊎ (d ≡ declarationsIn (b .hypotheses))
-      go true e h = inl (eqb-true (suc d) _ e)
-      go false e h = inr (eqb-true d _ h)
-
-  -- so no declaration is left out ..
-  pub hypothesis-no-gap : d ≤ declarationsIn (b .hypotheses)
-  hypothesis-no-gap = go hypothesis-step
-    where
-      go : (suc d ≡ declarationsIn (b .hypotheses)) ⊎ (d ≡ declarationsIn (b .hypotheses)) → d ≤ declarationsIn (b .hypotheses)
-      go (inl e) = omega arith
-      go (inr e) = omega arith
-
-  -- .. and none is taken up again
-  pub hypothesis-no-return : declarationsIn (b .hypotheses) ≤ suc d
-  hypothesis-no-return = go hypothesis-step
-    where
-      go : (suc d ≡ declarationsIn (b .hypotheses)) ⊎ (d ≡ declarationsIn (b .hypotheses)) → declarationsIn (b .hypotheses) ≤ suc d
-      go (inl e) = omega arith
-      go (inr e) = omega arith
-
-  -- the check of the atom and its declaration
-  after-5 : (isHypothesis b a || leb mostHypotheses (length (declaration (b .hypotheses) d))) ≡ false
-  unfolding fieldChecks
-  after-5 = passed 5 _ _ (passed 4 _ _ (passed 3 _ _ c .1) .1) .0
-
+  pub lastOrNext : Follows (b .hypotheses) d
   -- the atom is no hypothesis yet
-  pub hypothesis-new : isHypothesis b a ≡ false
-  hypothesis-new = or-false-left (isHypothesis b a) _ after-5
-
+  pub new : isHypothesis b a ≡ false
   -- "each of 1 to 16 hypotheses"
-  pub hypothesis-room : length (declaration (b .hypotheses) d) < 16
-  hypothesis-room = leb-false mostHypotheses _ (or-false-right (isHypothesis b a) _ after-5)
-
+  pub room : length (declaration (b .hypotheses) d) < 16
   -- the weight is not 0
-  pub hypothesis-weight : 1 ≤ w
+  pub weightPositive : 1 ≤ w
+
+module _ (b : Board) (d a w : ℕ) where
+  pub hypothesis-checked : firstFailing (fieldChecks b (hypothesis d a w)) ≡ 0 → HypothesisChecked b d a w
   unfolding fieldChecks
-  hypothesis-weight = omega (arith, eqb-false w 0 (passed 6 _ _ (passed 5 _ _ (passed 4 _ _ (passed 3 _ _ c .1) .1) .1) .0))
+  hypothesis-checked c =
+      let (four, c₅) = passed 3 _ _ c in
+      let (five, c₆) = passed 4 _ _ c₅ in
+      let (six, c₇) = passed 5 _ _ c₆ in
+      let (seven, none) = passed 6 _ _ c₇ in
+      record {
+        atomBelow = leb-false (b .atoms) a four;
+        declarationRoom = leb-false mostDeclarations d (or-false-left (leb mostDeclarations d) _ five);
+        lastOrNext = follows-of (b .hypotheses) d (not-false _ (or-false-right (leb mostDeclarations d) _ five));
+        new = or-false-left (isHypothesis b a) _ six;
+        room = leb-false mostHypotheses _ (or-false-right (isHypothesis b a) _ six);
+        weightPositive = omega (arith, eqb-false w 0 seven);
+      }
+
+  -- .. and the other way round
+  pub hypothesis-passes : HypothesisChecked b d a w → firstFailing (fieldChecks b (hypothesis d a w)) ≡ 0
+  unfolding fieldChecks firstFailing
+  hypothesis-passes k =
+      rw (
+        lt-leb (b .atoms) a (k .atomBelow),
+        lt-leb mostDeclarations d (k .declarationRoom),
+        last-or-next (k .lastOrNext),
+        k .new,
+        lt-leb mostHypotheses _ (k .room),
+        ne-eqb w 0 (λ e. omega arith),
+      )
+    where
+      last-or-next : {n : ℕ} → (suc d ≡ n) ⊎ (d ≡ n) → (eqb (suc d) n || eqb d n) ≡ true
+      last-or-next {n} (inl e) = rw (eq-eqb (suc d) n e)
+      last-or-next {n} (inr e) = rw (eq-eqb d n e) (or-true (eqb (suc d) n))
 
 -- ---- a rule
 
-module _ (b : Board) (h : ℕ) (places : List ℕ) (c : firstFailing (fieldChecks b (rule h places)) ≡ 0) where
-  -- the check of the atoms
-  atoms-4 : (leb (b .atoms) h || any (leb (b .atoms)) (filled places)) ≡ false
+-- no check of its record fails
+pub record RuleChecked (b : Board) (h : ℕ) (places : List ℕ) : Type 0 where
+  -- the head is below the count; the body's atoms are, being below the head
+  pub headBelow : h < b .atoms
+  -- "Filled places come first"
+  pub first : T (filledFirst places)
+  -- "strictly ascending"
+  pub bodyAscending : T (ascending (filled places))
+  -- the head is no hypothesis
+  pub headNoHypothesis : isHypothesis b h ≡ false
+  -- "Body atoms are below the head"
+  pub bodyBelow : (a : ℕ) → List·Memᴰ a (filled places) → a < h
+  -- "0 to 256 rules"
+  pub room : length (b .rules) < 256
+
+module _ (b : Board) (h : ℕ) (places : List ℕ) where
+  pub rule-checked : firstFailing (fieldChecks b (rule h places)) ≡ 0 → RuleChecked b h places
   unfolding fieldChecks
-  atoms-4 = passed 3 _ _ c .0
+  rule-checked c =
+      let (four, c₉) = passed 3 _ _ c in
+      let (nine, c₁₀) = passed 8 _ _ c₉ in
+      let (ten, c₁₁) = passed 9 _ _ c₁₀ in
+      let (eleven, c₁₂) = passed 10 _ _ c₁₁ in
+      let (twelve, none) = passed 11 _ _ c₁₂ in
+      let up : T (filledFirst places && ascending (filled places)) = T-of-true (not-false (filledFirst places && ascending (filled places)) nine) in
+      record {
+        headBelow = leb-false (b .atoms) h (or-false-left (leb (b .atoms) h) _ four);
+        first = and-left (filledFirst places) _ up;
+        bodyAscending = and-right (filledFirst places) _ up;
+        headNoHypothesis = ten;
+        bodyBelow = λ a m. leb-false h a (none-at (leb h) eleven m);
+        room = leb-false mostRules _ twelve;
+      }
 
-  -- the head is below the count
-  pub rule-head : h < b .atoms
-  rule-head = leb-false (b .atoms) h (or-false-left (leb (b .atoms) h) _ atoms-4)
-
-  -- and so are the body's atoms
-  pub rule-atoms : T (all (λ a. ltb a (b .atoms)) (filled places))
-  rule-atoms = below-all (b .atoms) (filled places) (or-false-right (leb (b .atoms) h) _ atoms-4)
-
-  -- the check of the places
-  body-9 : T (filledFirst places && ascending (filled places))
-  unfolding fieldChecks
-  body-9 = T-of-true {a = filledFirst places && ascending (filled places)} (not-false _ (passed 8 _ _ (passed 3 _ _ c .1) .0))
+  -- .. and the other way round
+  pub rule-passes : RuleChecked b h places → firstFailing (fieldChecks b (rule h places)) ≡ 0
+  unfolding fieldChecks firstFailing
+  rule-passes k =
+      rw (
+        lt-leb (b .atoms) h (k .headBelow),
+        none-above (b .atoms) (filled places) (λ a m. omega (arith, k .bodyBelow a m)),
+        true-of-T (filledFirst places) (k .first),
+        true-of-T (ascending (filled places)) (k .bodyAscending),
+        k .headNoHypothesis,
+        none-above h (filled places) (k .bodyBelow),
+        lt-leb mostRules _ (k .room),
+      )
 
   -- "Filled places come first"
-  pub rule-filledFirst : T (filledFirst places)
-  rule-filledFirst = and-left (filledFirst places) _ body-9
-
-  -- the filled places ascend
-  pub rule-ascending : T (ascending (filled places))
-  rule-ascending = and-right (filledFirst places) _ body-9
-
-  -- the head is no hypothesis
-  pub rule-no-hypothesis : isHypothesis b h ≡ false
-  unfolding fieldChecks
-  rule-no-hypothesis = passed 9 _ _ (passed 8 _ _ (passed 3 _ _ c .1) .1) .0
-
-  -- "Body atoms are below the head"
-  pub rule-below-head : T (all (λ a. ltb a h) (filled places))
-  unfolding fieldChecks
-  rule-below-head = below-all h (filled places) (passed 10 _ _ (passed 9 _ _ (passed 8 _ _ (passed 3 _ _ c .1) .1) .1) .0)
-
-  -- "0 to 256 rules"
-  pub rule-room : length (b .rules) < 256
-  unfolding fieldChecks
-  rule-room = leb-false mostRules _ (passed 11 _ _ (passed 10 _ _ (passed 9 _ _ (passed 8 _ _ (passed 3 _ _ c .1) .1) .1) .1) .0)
+  pub rule-filledFirst : firstFailing (fieldChecks b (rule h places)) ≡ 0 → T (filledFirst places)
+  rule-filledFirst c = rule-checked c .first
 
 -- ---- the end
 
@@ -152,3 +154,8 @@ module _ (b : Board) (h : ℕ) (places : List ℕ) (c : firstFailing (fieldCheck
 pub finish-weight : (b : Board) → firstFailing (fieldChecks b finish) ≡ 0 → W b ≤ 1_000_000_000_000_000
 unfolding fieldChecks
 finish-weight b c = ltb-false mostW (W b) (passed 7 _ _ c .0)
+
+-- .. and the other way round
+pub finish-passes : (b : Board) → W b ≤ 1_000_000_000_000_000 → firstFailing (fieldChecks b finish) ≡ 0
+unfolding fieldChecks firstFailing
+finish-passes b h = rw (le-ltb mostW (W b) h)

@@ -3,23 +3,21 @@ use Prim.Native.Nat.{ℕ, suc, _^_, _≤_, _<_, max}
 use native.Mathlib.Omega.{arith}
 use native.Mathlib.Decide.{ℕ-discrete}
 use mathlib.Core.Path.{_≡_, sym, _∙_}
-use mathlib.Core.Bool.{true}
-use mathlib.Core.List.{List, [], _∷_, _++_, map, map-append, append-nil}
+use mathlib.Core.Logic.{_⊎_, inl, inr}
+use mathlib.Core.List.{List, [], _∷_, _++_, map, map-append, List·Memᴰ}
 use lib.ListN.{length, length-append}
-use lib.Seq.{append-snoc}
-use lib.Dec.{T, ltb, lt→ltb, ltb→lt}
-use Rattle.sets.specs.Lists.{all, keep}
-use Rattle.sets.proofs.Laws.Lists.Ends.{all-snoc}
-use Rattle.sets.proofs.Laws.Tests.{and-both, and-left, and-right}
+use lib.Dec.{T, ltb→lt}
+use Rattle.sets.specs.Lists.{keep, distinct}
+use Rattle.sets.proofs.Laws.Tests.{and-left, and-right}
 use Rattle.board.specs.Board.{Board, Hypothesis, declarationsIn, declaration, isHypothesis}
 use Rattle.board.proofs.Laws.Board.{declarationsIn-snoc, declaration-snoc-same, declaration-snoc-other, isAtomOf-among}
 use Rattle.board.specs.File.{hypothesis}
 use Rattle.board.specs.Load.{firstFailing, fieldChecks}
-use Rattle.board.proofs.Laws.Load.Checks.{hypothesis-atom, hypothesis-declaration, hypothesis-no-gap, hypothesis-no-return, hypothesis-new, hypothesis-room, hypothesis-weight}
+use Rattle.board.proofs.Laws.Load.Checks.{HypothesisChecked, hypothesis-checked}
+use Rattle.board.proofs.Laws.Load.Each.{each-at, each-member, each-keeps}
 use Rattle.board.proofs.Laws.Load.{recordPasses-zero}
-use Rattle.board.specs.Accepted.{within, distinct, stepwise}
-use Rattle.board.proofs.Laws.Accepted.Distinct.{distinct-snoc}
-use Rattle.board.proofs.Laws.Accepted.Within.{within-of}
+use Rattle.board.specs.Accepted.{AcceptedHypothesis}
+use Rattle.sets.proofs.Laws.Lists.Distinct.{distinct-snoc}
 use Rattle.board.specs.Private.Passes.{recordPasses, hypothesisPasses, hypothesesPass}
 
 -- the board after these hypotheses
@@ -33,38 +31,39 @@ module _ (atoms : ℕ) (before : List Hypothesis) (h : Hypothesis) (t : T (hypot
   unfolding hypothesisPasses
   hypothesisPasses-zero = recordPasses-zero _ _ (and-left (recordPasses (after atoms before) (hypothesis (h .declaration) (h .atom) (h .weight))) _ t)
 
+  -- what its checks say of it
+  pub hypothesisPasses-checked : HypothesisChecked (after atoms before) (h .declaration) (h .atom) (h .weight)
+  hypothesisPasses-checked = hypothesis-checked _ _ _ _ hypothesisPasses-zero
+
   -- its weight has 3 bytes
   pub hypothesisPasses-weight : h .weight < 2 ^ 24
   unfolding hypothesisPasses
   hypothesisPasses-weight = ltb→lt _ _ (and-right (recordPasses (after atoms before) (hypothesis (h .declaration) (h .atom) (h .weight))) _ t)
 
--- what a passing hypothesis keeps holds of all
-module _ (atoms : ℕ) (P : List Hypothesis → Type 0)
-    (step : (before : List Hypothesis) (h : Hypothesis) → P before
-    → firstFailing (fieldChecks (after atoms before) (hypothesis (h .declaration) (h .atom) (h .weight))) ≡ 0 → h .weight < 2 ^ 24 → P (before ++ (h ∷ []))) where
-  -- .. by induction over the hypotheses
-  pub each-hypothesis : (before hs : List Hypothesis) → P before → T (hypothesesPass atoms before hs) → P (before ++ hs)
-  unfolding hypothesesPass
-  each-hypothesis before [] p t = rw (append-nil before) p
-  each-hypothesis before (h ∷ hs) p t =
-      let one : T (hypothesisPasses atoms before h) = and-left (hypothesisPasses atoms before h) _ t in
-      rw (append-snoc before h hs) at
-      (each-hypothesis (before ++ (h ∷ [])) hs (step before h p (hypothesisPasses-zero atoms before h one) (hypothesisPasses-weight atoms before h one))
-      (and-right (hypothesisPasses atoms before h) _ t))
+-- each of those that pass is accepted
+pub hypotheses-accepted : (atoms : ℕ) (before hs : List Hypothesis) → T (hypothesesPass atoms before hs) → (h : Hypothesis) → List·Memᴰ h hs → AcceptedHypothesis atoms h
+hypotheses-accepted atoms before hs t h m =
+    let (ys, u) = each-member (hypothesisPasses atoms) before hs t m in
+    let k = hypothesisPasses-checked atoms ys h u in
+    record {
+      atomBelow = k .atomBelow;
+      weightPositive = k .weightPositive;
+      weightRoom = omega (arith, hypothesisPasses-weight atoms ys h u);
+    }
+
+-- what a hypothesis keeps by its checks, all have that pass
+each-hypothesis : (atoms : ℕ) (P : List Hypothesis → Type 0)
+    → ((before : List Hypothesis) (h : Hypothesis) → P before
+    → HypothesisChecked (after atoms before) (h .declaration) (h .atom) (h .weight) → P (before ++ (h ∷ [])))
+    → (hs : List Hypothesis) → P [] → T (hypothesesPass atoms [] hs) → P hs
+each-hypothesis atoms P step = each-keeps (hypothesisPasses atoms) P (λ before h k t. step before h k (hypothesisPasses-checked atoms before h t)) []
 
 -- ---- one hypothesis more
 
--- one step more, after the last
-stepwise-snoc : (hs : List Hypothesis) (k h : Hypothesis) → T (stepwise (hs ++ (k ∷ []))) → T (within (k .declaration) (suc (k .declaration)) (h .declaration))
-    → T (stepwise (hs ++ (k ∷ h ∷ [])))
-unfolding stepwise
-stepwise-snoc [] k h s t = and-both (within (k .declaration) (suc (k .declaration)) (h .declaration)) true t tt
-stepwise-snoc (x ∷ []) k h s t =
-    and-both (within (x .declaration) (suc (x .declaration)) (k .declaration)) _ (and-left (within (x .declaration) (suc (x .declaration)) (k .declaration)) true s)
-    (and-both (within (k .declaration) (suc (k .declaration)) (h .declaration)) true t tt)
-stepwise-snoc (x ∷ y ∷ hs) k h s t =
-    and-both (within (x .declaration) (suc (x .declaration)) (y .declaration)) _ (and-left (within (x .declaration) (suc (x .declaration)) (y .declaration)) _ s)
-    (stepwise-snoc (y ∷ hs) k h (and-right (within (x .declaration) (suc (x .declaration)) (y .declaration)) _ s) t)
+-- no declaration is left out
+no-gap : {d n : ℕ} → (suc d ≡ n) ⊎ (d ≡ n) → d ≤ n
+no-gap (inl e) = omega arith
+no-gap (inr e) = omega arith
 
 -- a declaration's size, with one hypothesis more
 sized : (before : List Hypothesis) (h : Hypothesis) (d : ℕ) → (d < declarationsIn before → 1 ≤ length (declaration before d)) × (length (declaration before d) ≤ 16)
@@ -79,19 +78,6 @@ sized before h d p g r = rw (declarationsIn-snoc before h) (go (ℕ-discrete (h 
         rw (declaration-snoc-same before h d e, length-append) (λ l. omega arith, omega arith)
     go (no e) = rw (declaration-snoc-other before h d e) (λ l. p .0 (omega arith), p .1)
 
--- so far stepwise, and with the next hypothesis too
-abbrev Steps : List Hypothesis → Type 0
-Steps l = T (stepwise l) × ((h : Hypothesis) → h .declaration ≤ declarationsIn l → declarationsIn l ≤ suc (h .declaration) → T (stepwise (l ++ (h ∷ []))))
-
--- one hypothesis more keeps that
-stepped : (before : List Hypothesis) (h : Hypothesis) → Steps before → h .declaration ≤ declarationsIn before → declarationsIn before ≤ suc (h .declaration)
-    → Steps (before ++ (h ∷ []))
-stepped before h p g r = (
-  p .1 h g r,
-  λ k g′ r′. rw (append-snoc before h (k ∷ [])) (stepwise-snoc before h k (p .1 h g r)
-      (within-of (h .declaration) (suc (h .declaration)) (k .declaration) (omega (arith, declarationsIn-snoc before h)) (omega (arith, declarationsIn-snoc before h)))),
-)
-
 -- ---- the laws
 
 module _ (atoms : ℕ) (hs : List Hypothesis) (t : T (hypothesesPass atoms [] hs)) where
@@ -99,41 +85,24 @@ module _ (atoms : ℕ) (hs : List Hypothesis) (t : T (hypothesesPass atoms [] hs
   pub hypotheses-declarations : declarationsIn hs ≤ 32
   unfolding declarationsIn
   hypotheses-declarations =
-      each-hypothesis atoms (λ l. declarationsIn l ≤ 32) (λ before h p c w. rw (declarationsIn-snoc before h) (omega (arith, hypothesis-declaration _ _ _ _ c))) [] hs (omega arith) t
-
-  -- every atom is below the count
-  pub hypotheses-below : T (all (λ h. ltb (h .atom) atoms) hs)
-  unfolding all
-  hypotheses-below =
-      each-hypothesis atoms (λ l. T (all (λ h. ltb (h .atom) atoms) l))
-      (λ before h p c w. all-snoc (λ h. ltb (h .atom) atoms) before h p (lt→ltb (h .atom) atoms (hypothesis-atom _ _ _ _ c))) [] hs tt t
-
-  -- "whole weights 1 to 16,777,215"
-  pub hypotheses-weights : T (all (λ h. within 1 16_777_215 (h .weight)) hs)
-  unfolding all
-  hypotheses-weights =
-      each-hypothesis atoms (λ l. T (all (λ h. within 1 16_777_215 (h .weight)) l))
-      (λ before h p c w. all-snoc (λ h. within 1 16_777_215 (h .weight)) before h p
-      (within-of 1 16_777_215 (h .weight) (hypothesis-weight _ _ _ _ c) (omega arith))) [] hs tt t
+      each-hypothesis atoms (λ l. declarationsIn l ≤ 32) (λ before h p c. rw (declarationsIn-snoc before h) (omega (arith, c .declarationRoom))) hs (omega arith) t
 
   -- no atom stands twice
   pub hypotheses-distinct : T (distinct (map (λ (h : Hypothesis). h .atom) hs))
   unfolding distinct isHypothesis
   hypotheses-distinct =
       each-hypothesis atoms (λ l. T (distinct (map (λ (h : Hypothesis). h .atom) l)))
-      (λ before h p c w. rw (map-append (λ (h : Hypothesis). h .atom) before (h ∷ []))
-      (distinct-snoc _ (h .atom) p (sym (isAtomOf-among before (h .atom)) ∙ hypothesis-new _ _ _ _ c))) [] hs tt t
+      (λ before h p c. rw (map-append (λ (h : Hypothesis). h .atom) before (h ∷ []))
+      (distinct-snoc _ (h .atom) p (sym (isAtomOf-among before (h .atom)) ∙ c .new))) hs tt t
 
   -- "each of 1 to 16 hypotheses"
   pub hypotheses-sizes : (d : ℕ) → (d < declarationsIn hs → 1 ≤ length (declaration hs d)) × (length (declaration hs d) ≤ 16)
   unfolding declaration keep declarationsIn
   hypotheses-sizes =
       each-hypothesis atoms (λ l. (d : ℕ) → (d < declarationsIn l → 1 ≤ length (declaration l d)) × (length (declaration l d) ≤ 16))
-      (λ before h p c w d. sized before h d (p d) (hypothesis-no-gap _ _ _ _ c) (hypothesis-room _ _ _ _ c)) [] hs (λ d. (λ l. omega arith, omega arith)) t
+      (λ before h p c d. sized before h d (p d) (no-gap (c .lastOrNext)) (c .room)) hs (λ d. (λ l. omega arith, omega arith)) t
 
-  -- "the number before or one more"
-  pub hypotheses-stepwise : T (stepwise hs)
-  unfolding stepwise declarationsIn within
-  hypotheses-stepwise =
-      each-hypothesis atoms Steps
-      (λ before h p c w. stepped before h p (hypothesis-no-gap _ _ _ _ c) (hypothesis-no-return _ _ _ _ c)) [] hs (tt, λ h l k. tt) t .0
+  -- "each record repeats the last one's number or adds 1"
+  pub hypotheses-numbered : (before : List Hypothesis) (h : Hypothesis) (after : List Hypothesis) → hs ≡ before ++ (h ∷ after)
+      → (suc (h .declaration) ≡ declarationsIn before) ⊎ (h .declaration ≡ declarationsIn before)
+  hypotheses-numbered before h after e = hypothesisPasses-checked atoms before h (each-at (hypothesisPasses atoms) [] before h after (rw e at t)) .lastOrNext

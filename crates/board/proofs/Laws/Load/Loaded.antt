@@ -4,21 +4,23 @@ use native.Mathlib.Omega.{arith}
 use mathlib.Core.Path.{_≡_, refl, sym, ap, _∙_}
 use mathlib.Core.Logic.{_⊎_, inl, inr}
 use mathlib.Core.Bool.{Bool, true, false, cond, true≢false, false≢true}
-use mathlib.Core.List.{List}
+use mathlib.Core.List.{List, []}
 use lib.ListN.{length, getD, length-take, length-drop}
 use lib.Dec.{T, ltb}
 use lib.Pow.{areBytes}
+use Rattle.board.specs.Sizes.{mostAtoms}
 use Rattle.board.specs.Answers.{FileAnswer, accepted, refusedAt}
 use Rattle.board.specs.Board.{Board}
 use Rattle.board.specs.File.{Record, Found, count, hypothesis, rule, finish, bodyBytes, knownKind, recordOf, nextPlace, readRecord}
 use Rattle.board.proofs.Laws.File.{unknown-high}
 use Rattle.board.proofs.Laws.File.Bytes.{threeBytes-lt}
 use Rattle.board.specs.Load.{noBoard, misplaced, misplacedAt, firstFailing, fieldChecks, taking, isFinish, atTheEnd, loadFrom, load}
-use Rattle.board.proofs.Laws.Load.Checks.{count-positive}
-use Rattle.board.proofs.Laws.Load.{boardPasses-of, soFar-atoms, soFar-count, soFar-hypothesis, soFar-rule}
+use Rattle.board.proofs.Laws.Load.Checks.{count-checked}
+use Rattle.board.proofs.Laws.Load.{soFar-atoms, soFar-hypotheses, soFar-rules, soFar-count, soFar-hypothesis, soFar-rule}
 use Rattle.board.proofs.Laws.Load.Reading.{Read, read-accepted, not-misplaced, placed-count, placed-other, placed-hypothesis}
 use Rattle.board.proofs.Laws.Load.Steps.{load-misplaced, load-unread, load-failing, load-finish, load-next}
-use Rattle.board.specs.Private.Passes.{soFar, boardPasses}
+use Rattle.board.specs.Private.Passes.{eachPasses, hypothesesPass}
+use Rattle.board.proofs.Laws.Load.Passes.{rulesPass, soFar, BoardPasses}
 
 -- nothing is read yet, or the count and maybe more
 abbrev pub Begun : Board → Type 0
@@ -33,7 +35,7 @@ begun-counted b (inr h) f = h
 -- one without has not
 begun-empty : (b : Board) → Begun b → b .atoms ≡ 0 → b ≡ noBoard
 begun-empty b (inl e) z = e
-begun-empty b (inr h) z = absurd (omega (arith, count-positive noBoard (b .atoms) (soFar-atoms b h)))
+begun-empty b (inr h) z = absurd (omega (arith, count-checked noBoard (b .atoms) (soFar-atoms b h) .0))
 
 -- no kind is above 4
 too-high : (kind : ℕ) → knownKind kind ≡ true → 4 < kind → ⊥
@@ -76,22 +78,22 @@ refused-never : (number place : ℕ) (b : Board) → refusedAt number place ≡ 
 refused-never number place b q = let z : _≡_ {A = ℕ} 0 1 = cc in omega arith
 
 -- after the end record the board passes
-ended : (b : Board) (r : Record) → isFinish r ≡ true → T (soFar (taking b r)) → firstFailing (fieldChecks b r) ≡ 0 → T (boardPasses b)
+ended : (b : Board) (r : Record) → isFinish r ≡ true → T (soFar (taking b r)) → firstFailing (fieldChecks b r) ≡ 0 → BoardPasses b
 unfolding isFinish taking
 ended b (count n) e h c = absurd (false≢true e)
 ended b (hypothesis d a w) e h c = absurd (false≢true e)
 ended b (rule p places) e h c = absurd (false≢true e)
-ended b finish e h c = boardPasses-of b h c
+ended b finish e h c = record { read = h; finished = c }
 
 -- a board that is accepted from some place on passes
-pub loadFrom-passes : (n : ℕ) (file : List ℕ) → T (areBytes file) → (at : ℕ) (b : Board) → Begun b → (c : Board) → loadFrom n file at b ≡ accepted c → T (boardPasses c)
+pub loadFrom-passes : (n : ℕ) (file : List ℕ) → T (areBytes file) → (at : ℕ) (b : Board) → Begun b → (c : Board) → loadFrom n file at b ≡ accepted c → BoardPasses c
 unfolding loadFrom
 loadFrom-passes zero file bytes at b g c e = absurd (refused-never 1 (length file) c e)
 loadFrom-passes (suc n) file bytes at b g c e = placed (misplacedAt file at b) refl (loadFrom-passes n file bytes)
   where
     checked : (r : Found) → misplacedAt file at b ≡ false → readRecord file at ≡ accepted r → (f : ℕ) → firstFailing (fieldChecks b (r .found)) ≡ f
         → (t : Bool) → isFinish (r .found) ≡ t
-        → ((at : ℕ) (b : Board) → Begun b → (c : Board) → loadFrom n file at b ≡ accepted c → T (boardPasses c)) → T (boardPasses c)
+        → ((at : ℕ) (b : Board) → Begun b → (c : Board) → loadFrom n file at b ≡ accepted c → BoardPasses c) → BoardPasses c
     checked r m k (suc f) q t i ih = absurd (refused-never _ _ c (sym (load-failing n file at b r m k f q) ∙ e))
     checked r m k zero q false i ih =
         ih (r .next) (taking b (r .found)) (inr (taken-in file bytes at b g m r k q)) c (sym (load-next n file at b r m k q i) ∙ e)
@@ -99,16 +101,36 @@ loadFrom-passes (suc n) file bytes at b g c e = placed (misplacedAt file at b) r
         rw (← end-same file (r .next) b c (sym (load-finish n file at b r m k q i) ∙ e)) (ended b (r .found) i (taken-in file bytes at b g m r k q) q)
 
     read : misplacedAt file at b ≡ false → (x : FileAnswer Found) → readRecord file at ≡ x
-        → ((at : ℕ) (b : Board) → Begun b → (c : Board) → loadFrom n file at b ≡ accepted c → T (boardPasses c)) → T (boardPasses c)
+        → ((at : ℕ) (b : Board) → Begun b → (c : Board) → loadFrom n file at b ≡ accepted c → BoardPasses c) → BoardPasses c
     read m (refusedAt number place) k ih = absurd (refused-never _ _ c (sym (load-unread n file at b number place m k) ∙ e))
     read m (accepted r) k ih = checked r m k (firstFailing (fieldChecks b (r .found))) refl (isFinish (r .found)) refl ih
 
     placed : (t : Bool) → misplacedAt file at b ≡ t
-        → ((at : ℕ) (b : Board) → Begun b → (c : Board) → loadFrom n file at b ≡ accepted c → T (boardPasses c)) → T (boardPasses c)
+        → ((at : ℕ) (b : Board) → Begun b → (c : Board) → loadFrom n file at b ≡ accepted c → BoardPasses c) → BoardPasses c
     placed true m ih = absurd (refused-never _ _ c (sym (load-misplaced n file at b m) ∙ e))
     placed false m ih = read m (readRecord file at) refl ih
 
 -- every loaded board passes
-pub loaded-passes : (file : List ℕ) → T (areBytes file) → (b : Board) → load file ≡ accepted b → T (boardPasses b)
+pub loaded-passes : (file : List ℕ) → T (areBytes file) → (b : Board) → load file ≡ accepted b → BoardPasses b
 unfolding load
 loaded-passes file bytes b e = loadFrom-passes (suc (length file)) file bytes 0 noBoard (inl refl) b e
+
+-- ---- a board read so far
+
+-- the hypotheses read so far pass
+pub begun-hypotheses : (b : Board) → Begun b → T (hypothesesPass (b .atoms) [] (b .hypotheses))
+unfolding noBoard eachPasses
+begun-hypotheses b (inl e) = rw e tt
+begun-hypotheses b (inr s) = soFar-hypotheses b s
+
+-- and so do the rules
+pub begun-rules : (b : Board) → Begun b → T (rulesPass (b .atoms) (b .hypotheses) [] (b .rules))
+unfolding noBoard eachPasses
+begun-rules b (inl e) = rw e tt
+begun-rules b (inr s) = soFar-rules b s
+
+-- there are no more atoms than a board may have
+pub begun-atoms : (b : Board) → Begun b → b .atoms ≤ mostAtoms
+unfolding noBoard
+begun-atoms b (inl e) = rw e (omega arith)
+begun-atoms b (inr s) = count-checked noBoard (b .atoms) (soFar-atoms b s) .1

@@ -1,27 +1,36 @@
--- How far the loader has come, for its proof: the board read so far stands in the table, and what is left to load is what `loadFrom` gives from the
--- next place on. Each record that passes leads to more of it. Assumes nothing.
+-- How far the loader has come, for its proof: the board read so far stands in the table, what is known of its hypotheses is, and what is left to load
+-- is what `loadFrom` gives from the next place on. Each record that passes leads to more of it. Assumes nothing.
 use mathlib.Core.Path.{_≡_, refl, sym, ap, _∙_}
 use mathlib.Core.Logic.{inl, inr}
-use Prim.Native.Nat.{ℕ, zero, suc, _+_, _≤_, _<_}
+use Prim.Native.Nat.{ℕ, zero, suc, pred, _+_, _≤_, _<_}
 use native.Mathlib.Omega.{arith}
-use mathlib.Core.Bool.{Bool, true, false, _&&_}
-use mathlib.Core.List.{List, flatten}
-use lib.Dec.{T}
+use mathlib.Core.Bool.{Bool, true, false, cond, true≢false}
+use mathlib.Core.List.{List, [], flatten}
+use lib.Dec.{T, ltb}
 use lib.Pow.{areBytes}
-use lib.ListN.{length, getD}
-use borrow.Author.Tests.{lt-ltb, le-ltb}
+use lib.ListN.{length}
 use Rattle.sets.specs.Lists.{pad}
-use Rattle.board.specs.Answers.{accepted, refusedAt}
-use Rattle.board.specs.Board.{Board, declarationsIn}
-use Rattle.board.specs.File.{Found, count, knownKind, nextPlace, readRecord}
-use Rattle.board.specs.Load.{noBoard, misplaced, misplacedAt, firstFailing, fieldChecks, taking, isFinish, atTheEnd, loadFrom, load}
-use Rattle.board.proofs.Laws.Load.Loaded.{Begun, taken-in}
+use Rattle.board.specs.Sizes.{mostAtoms, mostHypotheses, mostW}
+use Rattle.board.specs.Answers.{refusedAt}
+use Rattle.board.specs.Board.{Board, declarationsIn, W}
+use Rattle.board.specs.File.{Record, count, hypothesis, rule, finish, Found, nextPlace}
+use Rattle.board.specs.Load.{noBoard, firstFailing, fieldChecks, taking, isFinish, atTheEnd, loadFrom, load}
+use Rattle.board.specs.Table.{hypothesesIn, tableOf, zeroTable}
+use Rattle.board.proofs.Laws.Load.Passes.{soFar}
+use Rattle.board.specs.Private.Seen.{SeenOf}
+use Rattle.board.specs.Private.Taking.{passedRecord, ending}
+use Rattle.board.proofs.Laws.Lent.{declarationsIn-lent}
+use Rattle.board.proofs.Laws.Load.Hypotheses.{hypotheses-declarations, hypotheses-sizes}
+use Rattle.board.proofs.Laws.Load.Loaded.{Begun, begun-hypotheses, begun-atoms, taken-in}
+use Rattle.board.proofs.Laws.Load.Passed.{Passes, passed-refused}
 use Rattle.board.proofs.Laws.Load.Reading.{read-accepted}
-use Rattle.board.proofs.Laws.Load.Steps.{load-misplaced, load-unread, load-failing, load-finish, load-next}
-use Rattle.board.specs.Table.{tableOf, zeroTable}
+use Rattle.board.proofs.Laws.Load.Room.{hypotheses-length}
+use Rattle.board.proofs.Laws.Load.Steps.{load-failing, load-finish, load-next}
+use Rattle.board.proofs.Laws.Table.Arrays.{hypothesesIn-tableOf}
 use Rattle.board.specs.declared.Table.{Table}
+use Rattle.board.specs.declared.checks.Seen.{Seen}
 
-pub record Progress (file : List ℕ) (t : Table) (declarations at : ℕ) : Type 0 where
+pub record Progress (file : List ℕ) (t : Table) (seen : Seen) (at : ℕ) : Type 0 where
   -- the board read so far, and how many records there may still be
   pub board : Board
   pub fuel : ℕ
@@ -30,12 +39,12 @@ pub record Progress (file : List ℕ) (t : Table) (declarations at : ℕ) : Type
   pub rest : load file ≡ loadFrom fuel file at board
   pub begun : Begun board
   pub table : t ≡ tableOf board
-  pub count : declarations ≡ declarationsIn (board .hypotheses)
+  pub known : SeenOf (board .hypotheses) seen
 
 -- before the first record
-pub progress-start : (file : List ℕ) → Progress file zeroTable 0 0
-unfolding load noBoard zeroTable tableOf pad flatten declarationsIn
-progress-start file =
+pub progress-start : (file : List ℕ) (s : Seen) → SeenOf [] s → Progress file zeroTable s 0
+unfolding load noBoard zeroTable tableOf pad flatten
+progress-start file s k =
     record {
       board = noBoard;
       fuel = suc (length file);
@@ -44,23 +53,18 @@ progress-start file =
       rest = refl;
       begun = inl refl;
       table = refl;
-      count = refl;
+      known = k;
     }
 
--- ---- where it ends
+-- a record that is the end is the end record
+finish-of : (r : Record) → isFinish r ≡ true → r ≡ finish
+unfolding isFinish
+finish-of (count n) e = absurd (true≢false (sym e))
+finish-of (hypothesis d a w) e = absurd (true≢false (sym e))
+finish-of (rule h places) e = absurd (true≢false (sym e))
+finish-of finish e = refl
 
-module _ (file : List ℕ) (at : ℕ) (b : Board) where
-  -- what the loader's test of the kind found
-  pub misplacedAt-there : at < length file → (r : Bool) → r ≡ (knownKind (getD file at 0) && misplaced b (getD file at 0)) → misplacedAt file at b ≡ r
-  unfolding misplacedAt
-  misplacedAt-there h r e = simp (lt-ltb at (length file) h) (sym e)
-
-  -- no record is left to be misplaced
-  pub misplacedAt-past : length file ≤ at → misplacedAt file at b ≡ false
-  unfolding misplacedAt
-  misplacedAt-past h = simp (le-ltb at (length file) h)
-
-module _ {file : List ℕ} {t : Table} {declarations at : ℕ} (p : Progress file t declarations at) where
+module _ {file : List ℕ} {t : Table} {seen : Seen} {at : ℕ} (p : Progress file t seen at) where
   -- there is a record to come
   more : (P : ℕ → Type 0) → ((n : ℕ) → P (suc n)) → P (p .fuel)
   more P f = go (p .fuel) (p .enough)
@@ -69,64 +73,82 @@ module _ {file : List ℕ} {t : Table} {declarations at : ℕ} (p : Progress fil
       go zero h = absurd (omega (arith, p .here))
       go (suc n) h = f n
 
-  -- a record in the wrong place ends it
-  pub ends-misplaced : misplacedAt file at (p .board) ≡ true → load file ≡ refusedAt 3 at
-  ends-misplaced m = p .rest ∙ more (λ n. loadFrom n file at (p .board) ≡ refusedAt 3 at) (λ n. load-misplaced n file at (p .board) m)
+  -- a record that does not pass ends it
+  pub ends-refused : (number place : ℕ) → passedRecord file at (p .board) ≡ refusedAt number place → load file ≡ refusedAt number place
+  ends-refused number place e =
+      p .rest ∙ more (λ n. loadFrom n file at (p .board) ≡ refusedAt number place) (passed-refused file at (p .board) number place e)
 
-  -- a record that cannot be read ends it
-  pub ends-unread : (number place : ℕ) → misplacedAt file at (p .board) ≡ false → readRecord file at ≡ refusedAt number place → load file ≡ refusedAt number place
-  ends-unread number place m r =
-      p .rest ∙ more (λ n. loadFrom n file at (p .board) ≡ refusedAt number place) (λ n. load-unread n file at (p .board) number place m r)
+  module _ (r : Found) (q : Passes file at (p .board) r) where
+    -- an end record ends it
+    pub ends-finished : isFinish (r .found) ≡ true → load file ≡ ending file at (r .next) (p .board)
+    unfolding ending fieldChecks firstFailing
+    ends-finished g = p .rest ∙ more (λ n. loadFrom n file at (p .board) ≡ ending file at (r .next) (p .board)) (λ n. go n (ltb mostW (W (p .board))) refl)
+      where
+        end : r .found ≡ finish
+        end = finish-of (r .found) g
 
-  module _ (m : misplacedAt file at (p .board) ≡ false) (r : Found) (e : readRecord file at ≡ accepted r) where
-    -- a field check that fails ends it
-    pub ends-failing : (number : ℕ) → firstFailing (fieldChecks (p .board) (r .found)) ≡ number → (number ≡ 0 → ⊥) → load file ≡ refusedAt number at
-    ends-failing zero f z = absurd (z refl)
-    ends-failing (suc k) f z =
-        p .rest ∙ more (λ n. loadFrom n file at (p .board) ≡ refusedAt (suc k) at) (λ n. load-failing n file at (p .board) r m e k f)
+        go : (n : ℕ) (u : Bool) → ltb mostW (W (p .board)) ≡ u → loadFrom (suc n) file at (p .board) ≡ cond u (refusedAt 8 at) (atTheEnd file (r .next) (p .board))
+        go n true e = load-failing n file at (p .board) r (q .placed) (q .read) 7 (rw (end, e))
+        go n false e = load-finish n file at (p .board) r (q .placed) (q .read) (rw (end, e)) g
 
-    module _ (f : firstFailing (fieldChecks (p .board) (r .found)) ≡ 0) where
-      -- the end record leads to the end
-      finished : isFinish (r .found) ≡ true → load file ≡ atTheEnd file (r .next) (p .board)
-      finished g = p .rest ∙ more (λ n. loadFrom n file at (p .board) ≡ atTheEnd file (r .next) (p .board)) (λ n. load-finish n file at (p .board) r m e f g)
+    -- the next place is past this one, and no further than the end
+    pub goes-further : (at < r .next) × (r .next ≤ length file)
+    unfolding nextPlace
+    goes-further =
+        let d = read-accepted file at r (q .read) in
+        let next = ap (λ (x : Found). x .next) (d .same) in
+        (omega (arith, next), omega (arith, next, d .whole))
 
-      -- a byte after the end record is refused
-      pub ends-followed : isFinish (r .found) ≡ true → r .next < length file → load file ≡ refusedAt 3 (r .next)
-      unfolding atTheEnd
-      ends-followed g h = finished g ∙ simp (lt-ltb (r .next) (length file) h)
+    module _ (bytes : T (areBytes file)) (g : isFinish (r .found) ≡ false) where
+      -- the board with it is one read so far
+      pub next-sound : T (soFar (taking (p .board) (r .found)))
+      next-sound = taken-in file bytes at (p .board) (p .begun) (q .placed) r (q .read) (q .checks g)
 
-      -- nothing after the end record: the board is accepted
-      pub ends-accepted : isFinish (r .found) ≡ true → length file ≤ r .next → load file ≡ accepted (p .board)
-      unfolding atTheEnd
-      ends-accepted g h = finished g ∙ simp (le-ltb (r .next) (length file) h)
-
-      -- ---- where it goes on
-
-      -- the next place is past this one
-      pub goes-further : at < r .next
-      unfolding nextPlace
-      goes-further = let d = read-accepted file at r e in omega (arith, ap (λ (x : Found). x .next) (d .same))
-
-      -- the next place is no further than the end
-      pub next-here : r .next ≤ length file
-      next-here = let d = read-accepted file at r e in omega (arith, ap (λ (x : Found). x .next) (d .same), d .whole)
-
-      -- any other record that passes is taken
-      pub goes-on : T (areBytes file) → isFinish (r .found) ≡ false → (t′ : Table) (declarations′ : ℕ) → t′ ≡ tableOf (taking (p .board) (r .found))
-          → declarations′ ≡ declarationsIn (taking (p .board) (r .found) .hypotheses) → Progress file t′ declarations′ (r .next)
-      goes-on bytes g t′ declarations′ same number =
-          more′ (p .fuel) (p .enough) (p .rest)
+      -- any other record is taken
+      pub goes-on : (t′ : Table) (seen′ : Seen) → t′ ≡ tableOf (taking (p .board) (r .found)) → SeenOf (taking (p .board) (r .found) .hypotheses) seen′
+          → Progress file t′ seen′ (r .next)
+      goes-on t′ seen′ same k = more′ (p .fuel) (p .enough) (p .rest)
         where
-          more′ : (n : ℕ) → length file < n + at → load file ≡ loadFrom n file at (p .board) → Progress file t′ declarations′ (r .next)
-          more′ zero h k = absurd (omega (arith, p .here))
-          more′ (suc n) h k =
+          more′ : (n : ℕ) → length file < n + at → load file ≡ loadFrom n file at (p .board) → Progress file t′ seen′ (r .next)
+          more′ zero h l = absurd (omega (arith, p .here))
+          more′ (suc n) h l =
               record {
                 board = taking (p .board) (r .found);
                 fuel = n;
-                here = next-here;
+                here = goes-further .1;
                 enough = omega (arith, goes-further);
-                rest = k ∙ load-next n file at (p .board) r m e f g;
-                begun = inr (taken-in file bytes at (p .board) (p .begun) m r e f);
+                rest = l ∙ load-next n file at (p .board) r (q .placed) (q .read) (q .checks g) g;
+                begun = inr next-sound;
                 table = same;
-                count = number;
+                known = k;
               }
+
+  -- ---- what the loader's parts ask
+
+  -- the hypotheses have room
+  pub room-hypotheses : t .hypotheses ≤ mostAtoms
+  unfolding tableOf
+  room-hypotheses =
+      omega (
+        arith,
+        ap (λ (u : Table). u .hypotheses) (p .table),
+        hypotheses-length (p .board .atoms) (p .board .hypotheses) (begun-hypotheses (p .board) (p .begun)),
+        begun-atoms (p .board) (p .begun),
+      )
+
+  -- there are few declarations
+  pub room-declarations : seen .declarations ≤ 256
+  room-declarations =
+      omega (arith, p .known .declarations, hypotheses-declarations (p .board .atoms) (p .board .hypotheses) (begun-hypotheses (p .board) (p .begun)))
+
+  -- .. as many as the table's arrays say
+  pub count-declarations : seen .declarations ≡ declarationsIn (hypothesesIn (t .declaration) [] [] (t .hypotheses))
+  count-declarations =
+      p .known .declarations ∙ ap declarationsIn (sym (hypothesesIn-tableOf (p .board) t (p .table)))
+      ∙ declarationsIn-lent (t .declaration) (t .atom) [] (t .weight) [] (t .hypotheses)
+
+  -- the last declaration is full at most
+  pub room-last : seen .last ≤ mostHypotheses
+  room-last =
+      let hs = p .board .hypotheses in
+      omega (arith, p .known .last, hypotheses-sizes (p .board .atoms) hs (begun-hypotheses (p .board) (p .begun)) (pred (declarationsIn hs)) .1)

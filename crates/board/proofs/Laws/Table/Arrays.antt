@@ -1,6 +1,6 @@
 -- The arrays of a board's table give the board back, and two tables that are the same field by field are equal. Assumes nothing.
 use mathlib.Core.Path.{_≡_, refl, sym, ap, _∙_}
-use Prim.Native.Nat.{ℕ, _≤_, _<_}
+use Prim.Native.Nat.{ℕ, _<_}
 use mathlib.Core.Bool.{Bool, true, _&&_}
 use mathlib.Core.List.{List, [], map}
 use lib.Dec.{T, eqb, eqb→eq, eqb-refl}
@@ -9,18 +9,16 @@ use Rattle.sets.specs.Lists.{pad, sameNumbers}
 use Rattle.sets.proofs.Laws.Lists.Flatten.{take-drop-flatten}
 use Rattle.sets.proofs.Laws.Lists.{sameNumbers-refl, sameNumbers→eq}
 use Rattle.sets.proofs.Laws.Lists.Padding.{getD-pad}
-use Rattle.sets.proofs.Laws.Lists.Places.{map-below-by-place}
-use Rattle.sets.proofs.Laws.Tests.{and-left, and-right, true-of-T}
+use Rattle.sets.proofs.Laws.Lists.Indices.{at-index, map-below-by-index}
+use Rattle.sets.proofs.Laws.Tests.{four-and, five-and, true-of-T}
 use Rattle.board.specs.Sizes.{mostAtoms, mostRules, mostBody}
 use Rattle.board.specs.Board.{Board, Hypothesis, Rule}
-use Rattle.board.specs.Load.{noBoard, filled}
-use Rattle.board.proofs.Laws.Load.Checks.{count-room}
-use Rattle.board.proofs.Laws.Load.{soFar-atoms, soFar-rules, boardPasses-soFar}
+use Rattle.board.specs.Load.{filled}
+use Rattle.board.specs.Accepted.{Accepted}
+use Rattle.board.proofs.Laws.Accepted.{rule-atoms-below}
 use Rattle.board.specs.Table.{boardIn}
 use Rattle.board.specs.Table.{placesIn, ruleIn, hypothesesIn, rulesIn, boardOf, placesOf, tableOf, sameTable}
-use Rattle.board.proofs.Laws.Table.Bounds.{RuleBounds, rules-bounds}
-use Rattle.board.specs.Private.Passes.{soFar, boardPasses}
-use Rattle.board.proofs.Laws.Table.Places.{length-placesOf, filled-placesOf}
+use Rattle.board.proofs.Laws.Filled.{length-placesOf, filled-placesOf}
 use Rattle.board.specs.declared.Table.{Table}
 
 -- ---- the hypotheses
@@ -47,7 +45,7 @@ pub hypothesesIn-tableOf : (b : Board) (t : Table) → t ≡ tableOf b → hypot
 unfolding hypothesesIn tableOf
 hypothesesIn-tableOf b t e =
     ap (λ (u : Table). hypothesesIn (u .declaration) (u .atom) (u .weight) (u .hypotheses)) e
-    ∙ map-below-by-place _ noHypothesis (b .hypotheses) (λ i l. hypothesis-path (field-at (λ x. x .declaration) noHypothesis refl mostAtoms (b .hypotheses) i)
+    ∙ map-below-by-index _ noHypothesis (b .hypotheses) (λ i l. hypothesis-path (field-at (λ x. x .declaration) noHypothesis refl mostAtoms (b .hypotheses) i)
     (field-at (λ x. x .atom) noHypothesis refl mostAtoms (b .hypotheses) i) (field-at (λ x. x .weight) noHypothesis refl mostAtoms (b .hypotheses) i))
 
 -- the board itself, with any rules
@@ -60,32 +58,42 @@ boardIn-tableOf b t e =
 
 -- ---- the rules
 
--- the rules in the table of a board
-rules-back : (b : Board) → b .atoms ≤ 128 → ((i : ℕ) → i < length (b .rules) → RuleBounds (b .atoms) (getD (b .rules) i noRule))
-    → rulesIn (tableOf b .head) (tableOf b .body) (length (b .rules)) ≡ b .rules
-unfolding rulesIn tableOf pad
-rules-back b h bounds = map-below-by-place (ruleIn (tableOf b .head) (tableOf b .body)) noRule (b .rules) at-index
-  where
-    at-index : (i : ℕ) → i < length (b .rules) → ruleIn (tableOf b .head) (tableOf b .body) i ≡ getD (b .rules) i noRule
-    at-index i l =
-        let k : getD (tableOf b .head) i 0 ≡ getD (b .rules) i noRule .head = field-at (λ (r : Rule). r .head) noRule refl mostRules (b .rules) i in
-        let s : placesIn (tableOf b .body) i ≡ placesOf (getD (b .rules) i noRule) =
-        take-drop-flatten mostBody placesOf noRule (b .rules) _ (λ j m. length-placesOf (getD (b .rules) j noRule) (bounds j m .size)) i l in
-        let p : filled (placesIn (tableOf b .body) i) ≡ getD (b .rules) i noRule .body =
-        ap filled s ∙ filled-placesOf (b .atoms) h (getD (b .rules) i noRule) (bounds i l .body) in
-        λ j. record { head = k j; body = p j }
+-- the head of rule i in the table of a board
+pub head-tableOf : (b : Board) (i : ℕ) → getD (tableOf b .head) i 0 ≡ getD (b .rules) i noRule .head
+unfolding tableOf
+head-tableOf b = field-at (λ (r : Rule). r .head) noRule refl mostRules (b .rules)
 
--- the table of a board that passes has that board
-pub boardOf-tableOf : (b : Board) → T (boardPasses b) → boardOf (tableOf b) ≡ b
+module _ {b : Board} (k : Accepted b) where
+  -- and its places
+  pub placesIn-tableOf : (i : ℕ) → i < length (b .rules) → placesIn (tableOf b .body) i ≡ placesOf (getD (b .rules) i noRule)
+  unfolding tableOf pad
+  placesIn-tableOf =
+      take-drop-flatten mostBody placesOf noRule (b .rules) _ (λ j m. length-placesOf (getD (b .rules) j noRule) (k .rule _ (at-index (b .rules) j noRule m) .bodyRoom))
+
+  -- the rules in the table of a board
+  rulesIn-tableOf : rulesIn (tableOf b .head) (tableOf b .body) (length (b .rules)) ≡ b .rules
+  unfolding rulesIn
+  rulesIn-tableOf = map-below-by-index (ruleIn (tableOf b .head) (tableOf b .body)) noRule (b .rules) (λ i l.
+      let h = head-tableOf b i in
+      let body =
+      ap filled (placesIn-tableOf i l) ∙ filled-placesOf (b .atoms) (k .atomsRoom) (getD (b .rules) i noRule) (rule-atoms-below (k .rule _ (at-index (b .rules) i noRule l))) in
+      λ j. record { head = h j; body = body j })
+
+-- the table of an accepted board has that board
+pub boardOf-tableOf : {b : Board} → Accepted b → boardOf (tableOf b) ≡ b
 unfolding boardOf tableOf
-boardOf-tableOf b t =
-    let s : T (soFar b) = boardPasses-soFar b t in
-    let r =
-    rules-back b (count-room noBoard (b .atoms) (soFar-atoms b s))
-    (λ i l. rules-bounds (b .atoms) (b .hypotheses) [] (b .rules) (soFar-rules b s) i noRule l) in
-    λ j. record { atoms = b .atoms; hypotheses = hypothesesIn-tableOf b (tableOf b) refl j; rules = r j }
+boardOf-tableOf {b} k =
+    let rs = rulesIn-tableOf k in
+    λ j. record { atoms = b .atoms; hypotheses = hypothesesIn-tableOf b (tableOf b) refl j; rules = rs j }
 
 -- ---- tables field by field
+
+-- tables with equal fields are equal
+pub table-path : {k k′ n n′ m m′ : ℕ} {ds ds′ xs xs′ ws ws′ hs hs′ bs bs′ : List ℕ}
+    → k ≡ k′ → n ≡ n′ → m ≡ m′ → ds ≡ ds′ → xs ≡ xs′ → ws ≡ ws′ → hs ≡ hs′ → bs ≡ bs′
+    → Path Table (record { atoms = k; hypotheses = n; rules = m; declaration = ds; atom = xs; weight = ws; head = hs; body = bs })
+    (record { atoms = k′; hypotheses = n′; rules = m′; declaration = ds′; atom = xs′; weight = ws′; head = hs′; body = bs′ })
+table-path a b c d e f g h = λ i. record { atoms = a i; hypotheses = b i; rules = c i; declaration = d i; atom = e i; weight = f i; head = g i; body = h i }
 
 -- a table is the same as itself
 pub sameTable-refl : (t : Table) → T (sameTable t t)
@@ -102,27 +110,10 @@ sameTable-refl t = simp (same-number, same-numbers) tt
 pub sameTable→eq : (t u : Table) → T (sameTable t u) → t ≡ u
 unfolding sameTable
 sameTable→eq t u s =
-    let t₁ : Bool = eqb (t .atoms) (u .atoms) in
-    let t₂ : Bool = t₁ && eqb (t .hypotheses) (u .hypotheses) in
-    let t₃ : Bool = t₂ && eqb (t .rules) (u .rules) in
-    let t₄ : Bool = t₃ && sameNumbers (t .declaration) (u .declaration) in
-    let t₅ : Bool = t₄ && sameNumbers (t .atom) (u .atom) in
-    let t₆ : Bool = t₅ && sameNumbers (t .weight) (u .weight) in
-    let t₇ : Bool = t₆ && sameNumbers (t .head) (u .head) in
-    let s₇ : T t₇ = and-left t₇ (sameNumbers (t .body) (u .body)) s in
-    let s₆ : T t₆ = and-left t₆ (sameNumbers (t .head) (u .head)) s₇ in
-    let s₅ : T t₅ = and-left t₅ (sameNumbers (t .weight) (u .weight)) s₆ in
-    let s₄ : T t₄ = and-left t₄ (sameNumbers (t .atom) (u .atom)) s₅ in
-    let s₃ : T t₃ = and-left t₃ (sameNumbers (t .declaration) (u .declaration)) s₄ in
-    let s₂ : T t₂ = and-left t₂ (eqb (t .rules) (u .rules)) s₃ in
-    let s₁ : T t₁ = and-left t₁ (eqb (t .hypotheses) (u .hypotheses)) s₂ in
-    λ j. record {
-      atoms = eqb→eq (t .atoms) (u .atoms) s₁ j;
-      hypotheses = eqb→eq (t .hypotheses) (u .hypotheses) (and-right t₁ (eqb (t .hypotheses) (u .hypotheses)) s₂) j;
-      rules = eqb→eq (t .rules) (u .rules) (and-right t₂ (eqb (t .rules) (u .rules)) s₃) j;
-      declaration = sameNumbers→eq (t .declaration) (u .declaration) (and-right t₃ (sameNumbers (t .declaration) (u .declaration)) s₄) j;
-      atom = sameNumbers→eq (t .atom) (u .atom) (and-right t₄ (sameNumbers (t .atom) (u .atom)) s₅) j;
-      weight = sameNumbers→eq (t .weight) (u .weight) (and-right t₅ (sameNumbers (t .weight) (u .weight)) s₆) j;
-      head = sameNumbers→eq (t .head) (u .head) (and-right t₆ (sameNumbers (t .head) (u .head)) s₇) j;
-      body = sameNumbers→eq (t .body) (u .body) (and-right t₇ (sameNumbers (t .body) (u .body)) s) j;
-    }
+    let early : Bool =
+    eqb (t .atoms) (u .atoms) && eqb (t .hypotheses) (u .hypotheses) && eqb (t .rules) (u .rules) && sameNumbers (t .declaration) (u .declaration) in
+    let k = five-and early (sameNumbers (t .atom) (u .atom)) (sameNumbers (t .weight) (u .weight)) (sameNumbers (t .head) (u .head)) (sameNumbers (t .body) (u .body)) s in
+    let l =
+    four-and (eqb (t .atoms) (u .atoms)) (eqb (t .hypotheses) (u .hypotheses)) (eqb (t .rules) (u .rules)) (sameNumbers (t .declaration) (u .declaration)) (k .0) in
+    table-path (eqb→eq _ _ (l .0)) (eqb→eq _ _ (l .1)) (eqb→eq _ _ (l .2)) (sameNumbers→eq _ _ (l .3)) (sameNumbers→eq _ _ (k .1)) (sameNumbers→eq _ _ (k .2))
+    (sameNumbers→eq _ _ (k .3)) (sameNumbers→eq _ _ (k .4))

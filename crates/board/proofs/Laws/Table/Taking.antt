@@ -3,7 +3,7 @@ use mathlib.Core.Path.{_≡_, refl, sym, ap, _∙_}
 use Prim.Native.Nat.{ℕ, _+_, _*_, _<_}
 use native.Mathlib.Omega.{arith}
 use mathlib.Core.List.{List, [], _∷_, _++_, map, flatten, map-append}
-use lib.Dec.{T, leb→le}
+use lib.Dec.{T}
 use lib.ListN.{length, take, drop, set, length-append, length-map}
 use Rattle.sets.specs.Lists.{pad}
 use Rattle.sets.proofs.Laws.Lists.Flatten.{flatten-map-snoc}
@@ -12,18 +12,13 @@ use Rattle.board.specs.Sizes.{mostAtoms, mostRules, mostBody}
 use Rattle.board.specs.Board.{Board, Hypothesis, Rule, declaration}
 use Rattle.board.specs.File.{count, hypothesis, rule}
 use Rattle.board.specs.Load.{filled, filledFirst, taking}
-use Rattle.board.proofs.Laws.Load.Rules.{each-rule, rulePasses-length}
+use Rattle.board.proofs.Laws.Load.Each.{each-keeps}
+use Rattle.board.proofs.Laws.Load.Rules.{rulePasses-length}
 use Rattle.board.specs.Table.{placesOf, tableOf}
-use Rattle.board.specs.Private.Passes.{rulesPass}
-use Rattle.board.proofs.Laws.Table.Places.{length-placesOf, placesOf-filled}
+use Rattle.board.proofs.Laws.Load.Passes.{rulePasses, rulesPass}
+use Rattle.board.proofs.Laws.Table.Arrays.{table-path}
+use Rattle.board.proofs.Laws.Filled.{length-placesOf, placesOf-filled}
 use Rattle.board.specs.declared.Table.{Table}
-
--- tables with equal fields are equal
-pub table-path : {k k′ n n′ m m′ : ℕ} {ds ds′ xs xs′ ws ws′ hs hs′ bs bs′ : List ℕ}
-    → k ≡ k′ → n ≡ n′ → m ≡ m′ → ds ≡ ds′ → xs ≡ xs′ → ws ≡ ws′ → hs ≡ hs′ → bs ≡ bs′
-    → Path Table (record { atoms = k; hypotheses = n; rules = m; declaration = ds; atom = xs; weight = ws; head = hs; body = bs })
-    (record { atoms = k′; hypotheses = n′; rules = m′; declaration = ds′; atom = xs′; weight = ws′; head = hs′; body = bs′ })
-table-path a b c d e f g h = λ i. record { atoms = a i; hypotheses = b i; rules = c i; declaration = d i; atom = e i; weight = f i; head = g i; body = h i }
 
 -- a field of one element more
 field-snoc {ℓ} : {A : Type ℓ} (f : A → ℕ) (n : ℕ) (xs : List A) (x : A) → length xs < n
@@ -50,9 +45,7 @@ module _ (b : Board) (t : Table) (e : t ≡ tableOf b) where
       }
       ≡ tableOf (taking b (count n))
   unfolding tableOf taking
-  tableOf-count n =
-      table-path refl (ap (λ (u : Table). u .hypotheses) e) (ap (λ (u : Table). u .rules) e) (ap (λ (u : Table). u .declaration) e)
-      (ap (λ (u : Table). u .atom) e) (ap (λ (u : Table). u .weight) e) (ap (λ (u : Table). u .head) e) (ap (λ (u : Table). u .body) e)
+  tableOf-count n = rw e
 
   -- a hypothesis more
   pub tableOf-hypothesis : (d a w : ℕ) → length (b .hypotheses) < mostAtoms
@@ -70,20 +63,18 @@ module _ (b : Board) (t : Table) (e : t ≡ tableOf b) where
   unfolding tableOf taking
   tableOf-hypothesis d a w h =
       let new : Hypothesis = record { declaration = d; atom = a; weight = w } in
-      table-path (ap (λ (u : Table). u .atoms) e) (ap (λ (u : Table). u .hypotheses + 1) e ∙ sym (length-append (b .hypotheses) (new ∷ []))) (ap (λ (u : Table). u .rules) e)
-      (ap (λ (u : Table). set (u .declaration) (u .hypotheses) d) e ∙ field-snoc (λ (x : Hypothesis). x .declaration) mostAtoms (b .hypotheses) new h)
-      (ap (λ (u : Table). set (u .atom) (u .hypotheses) a) e ∙ field-snoc (λ (x : Hypothesis). x .atom) mostAtoms (b .hypotheses) new h)
-      (ap (λ (u : Table). set (u .weight) (u .hypotheses) w) e ∙ field-snoc (λ (x : Hypothesis). x .weight) mostAtoms (b .hypotheses) new h)
-      (ap (λ (u : Table). u .head) e) (ap (λ (u : Table). u .body) e)
+      rw e
+      (table-path refl (sym (length-append (b .hypotheses) (new ∷ []))) refl (field-snoc (λ (x : Hypothesis). x .declaration) mostAtoms (b .hypotheses) new h)
+      (field-snoc (λ (x : Hypothesis). x .atom) mostAtoms (b .hypotheses) new h) (field-snoc (λ (x : Hypothesis). x .weight) mostAtoms (b .hypotheses) new h) refl refl)
 
 -- rules that pass have eight places each
 pub length-places : (atoms : ℕ) (hypotheses : List Hypothesis) (rs : List Rule) → T (rulesPass atoms hypotheses [] rs)
     → length (flatten (map placesOf rs)) ≡ mostBody * length rs
 unfolding flatten
 length-places atoms hypotheses rs =
-    each-rule atoms hypotheses (λ l. length (flatten (map placesOf l)) ≡ mostBody * length l)
+    each-keeps (rulePasses atoms hypotheses) (λ l. length (flatten (map placesOf l)) ≡ mostBody * length l)
     (λ before r p h. ap length (flatten-map-snoc placesOf before r) ∙ length-append (flatten (map placesOf before)) (placesOf r)
-    ∙ omega (arith, length-append before (r ∷ []), length-placesOf r (leb→le _ _ (rulePasses-length atoms hypotheses before r h)))) [] rs (omega arith)
+    ∙ omega (arith, length-append before (r ∷ []), length-placesOf r (rulePasses-length atoms hypotheses before r h))) [] rs (omega arith)
 
 module _ (b : Board) (t : Table) (e : t ≡ tableOf b) where
   -- a rule more
@@ -106,12 +97,8 @@ module _ (b : Board) (t : Table) (e : t ≡ tableOf b) where
       let rs : List Rule = b .rules in
       let long : length (flatten (map placesOf rs)) ≡ 8 * length rs = length-places _ _ rs s in
       let same : placesOf new ≡ places = placesOf-filled h places eight first in
-      table-path (ap (λ (u : Table). u .atoms) e) (ap (λ (u : Table). u .hypotheses) e) (ap (λ (u : Table). u .rules + 1) e ∙ sym (length-append rs (new ∷ [])))
-      (ap (λ (u : Table). u .declaration) e) (ap (λ (u : Table). u .atom) e) (ap (λ (u : Table). u .weight) e)
-      (ap (λ (u : Table). set (u .head) (u .rules) h) e ∙ field-snoc (λ (x : Rule). x .head) mostRules rs new room)
-      (put
-      ∙ ap (λ (u : Table). take (8 * u .rules) (u .body) ++ places ++ drop (8 * u .rules + 8) (u .body)) e
-      ∙ ap (λ (k : ℕ). take (8 * length rs) (pad 2048 0 (flatten (map placesOf rs))) ++ places ++ drop (8 * length rs + k) (pad 2048 0 (flatten (map placesOf rs)))) (sym eight)
+      rw (put, e)
+      (table-path refl refl (sym (length-append rs (new ∷ []))) refl refl refl (field-snoc (λ (x : Rule). x .head) mostRules rs new room)
+      (ap (λ (k : ℕ). take (8 * length rs) (pad 2048 0 (flatten (map placesOf rs))) ++ places ++ drop (8 * length rs + k) (pad 2048 0 (flatten (map placesOf rs)))) (sym eight)
       ∙ splice-pad 2048 (8 * length rs) 0 (flatten (map placesOf rs)) places long (omega arith)
-      ∙ ap (λ (l : List ℕ). pad 2048 0 (flatten (map placesOf rs) ++ l)) (sym same)
-      ∙ ap (pad 2048 0) (sym (flatten-map-snoc placesOf rs new)))
+      ∙ rw (flatten-map-snoc placesOf rs new, same)))

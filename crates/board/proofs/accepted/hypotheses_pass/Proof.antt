@@ -1,35 +1,46 @@
--- `hypotheses_pass` meets its contract: those passed so far pass, and the number of their declarations is kept. Assumes nothing.
+-- `hypotheses_pass` meets its contract: those passed so far pass, and what is known of them is kept. Assumes nothing.
 use native.Mathlib.Omega.{arith}
 use native.Mathlib.Numerals.{add-one}
-use mathlib.Core.Path.{_≡_, refl, sym, ap, ap₂, _∙_}
+use mathlib.Core.Path.{_≡_, refl, sym, _∙_}
+use mathlib.Core.Bool.{true≢false}
 use mathlib.Core.List.{[]}
-use Prim.Native.Nat.{ℕ, suc, _+_, _-_, _≤_, max}
+use Prim.Native.Nat.{pred, _-_, _≤_}
 use lib.Dec.{T}
 use lib.ListN.{getD}
 use denote.Ref.{now}
-use Rattle.sets.specs.Lists.{below, numbersFrom}
 use Rattle.sets.proofs.Laws.Tests.{true-of-T}
 use Rattle.board.specs.Board.{declarationsIn}
-use Rattle.board.specs.Private.Passes.{hypothesesPass}
-use Rattle.board.specs.Table.{hypothesesIn}
-use Rattle.board.proofs.Laws.Lent.{declarationsIn-more}
-use Rattle.board.proofs.Laws.Lent.Passing.{firstPass, firstPass-more, firstPass-fails, nextPasses-of, nextPasses-weight, nextPasses-check}
+use Rattle.board.specs.File.{hypothesis}
+use Rattle.board.specs.Load.{firstFailing, fieldChecks, taking}
+use Rattle.board.specs.Table.{hypothesisIn, hypothesesIn, boardIn}
+use Rattle.board.specs.Private.Passes.{eachPasses}
+use Rattle.board.specs.Private.Seen.{SeenOf}
+use Rattle.board.proofs.Laws.Lent.{hypothesesIn-zero, hypothesesIn-suc}
+use Rattle.board.proofs.Laws.Lent.Passing.{firstPass, firstPass-more, firstPass-fails}
+use Rattle.board.proofs.Laws.Load.{hypothesisPasses-of}
+use Rattle.board.proofs.Laws.Load.Hypotheses.{hypothesisPasses-zero, hypothesisPasses-weight, hypotheses-sizes}
 use Rattle.board.proofs.accepted.hypotheses_pass.Statement.{statement}
 use Rattle.board.proofs.accepted.hypotheses_pass.Tie as tie
 
 abbrev Inv-loop : tie.InvT-loop
-Inv-loop atoms n numbers atom weight declarations₀ i₀ declarations i =
-    (i ≤ n) × (declarations ≡ declarationsIn (hypothesesIn numbers [] [] i)) × T (firstPass atoms numbers atom weight i)
+Inv-loop atoms n numbers atom weight seen₀ i₀ seen i =
+    (i ≤ n) × SeenOf (hypothesesIn numbers atom weight i) seen × T (firstPass atoms numbers atom weight i)
 
 abbrev μ-loop : tie.MeasureT-loop
-μ-loop atoms n numbers atom weight declarations₀ i₀ declarations i = n - i
+μ-loop atoms n numbers atom weight seen₀ i₀ seen i = n - i
+
+nothing-seen-requires : tie.Need-nothing-seen-requires Inv-loop μ-loop
+nothing-seen-requires c κs = tt
 
 loop-holds : tie.Need-loop-holds Inv-loop μ-loop
-unfolding hypothesesPass declarationsIn hypothesesIn below numbersFrom
-loop-holds c = (omega arith, refl, tt)
+unfolding eachPasses
+loop-holds c = (omega arith, rw (hypothesesIn-zero (now (c .before .args .numbers)) _ _) (c .nothing-seen .ensures), rw (hypothesesIn-zero (now (c .before .args .numbers)) _ _) tt)
 
 element-copy-out-d : tie.Need-element-copy-out-d Inv-loop μ-loop
 element-copy-out-d c = omega arith
+
+element-copy-out-a : tie.Need-element-copy-out-a Inv-loop μ-loop
+element-copy-out-a c = omega arith
 
 mul-w : tie.Need-mul-w Inv-loop μ-loop
 mul-w c = omega arith
@@ -39,33 +50,41 @@ element-copy-out-w c = omega arith
 
 returns : tie.Need-returns Inv-loop μ-loop
 returns c =
-    let a = c .before .before .before .before .before .args in
-    let l = c .before .before .before .before .loop in
-    firstPass-fails (a .atoms) (now (a .numbers)) (now (a .atom)) (now (a .weight)) (l .i) (a .n) (omega arith)
-    (λ t. omega (arith, nextPasses-weight (a .atoms) (now (a .numbers)) (now (a .atom)) (now (a .weight)) (l .i) t))
-
-element-copy-out-hypothesis-refusal : tie.Need-element-copy-out-hypothesis-refusal Inv-loop μ-loop
-element-copy-out-hypothesis-refusal c = omega arith
+    let a = c .before .before .before .before .before .before .before .args in
+    let l = c .before .before .before .before .before .loop in
+    record {
+      all = firstPass-fails (a .atoms) (now (a .numbers)) (now (a .atom)) (now (a .weight)) (l .i) (a .n) (omega arith)
+          (λ t. omega (arith, hypothesisPasses-weight (a .atoms) (hypothesesIn (now (a .numbers)) (now (a .atom)) (now (a .weight)) (l .i)) (hypothesisIn (now (a .numbers)) (now (a .atom)) (now (a .weight)) (l .i)) t));
+      seen = λ e. absurd (true≢false (sym e));
+    }
 
 hypothesis-refusal-requires : tie.Need-hypothesis-refusal-requires Inv-loop μ-loop
-hypothesis-refusal-requires c κs = (omega arith, c .before .before .before .before .before .loop .inv .1)
+hypothesis-refusal-requires c κs = tt
+
+-- the check of the hypothesis at i, as it stands in the arrays
+checked : (c : tie.After-hypothesis-refusal Inv-loop μ-loop) → let a = c .before .before .before .before .before .before .before .before .args in
+    let i = c .before .before .before .before .before .before .loop .i in
+    c .hypothesis-refusal .result
+    ≡ firstFailing (fieldChecks (boardIn (a .atoms) (now (a .numbers)) (now (a .atom)) (now (a .weight)) i [])
+    (hypothesis (getD (now (a .numbers)) i 0) (getD (now (a .atom)) i 0) (getD (now (a .weight)) i 0)))
+checked c = c .hypothesis-refusal .ensures _ refl (c .before .before .before .before .before .before .loop .inv .1)
 
 returns-2 : tie.Need-returns-2 Inv-loop μ-loop
 returns-2 c =
-    let a = c .before .before .before .before .before .before .before .before .args in
+    let a = c .before .before .before .before .before .before .before .before .before .args in
     let l = c .before .before .before .before .before .before .before .loop in
-    firstPass-fails (a .atoms) (now (a .numbers)) (now (a .atom)) (now (a .weight)) (l .i) (a .n) (omega arith)
-    (λ t. c .if2 .taken (c .before .hypothesis-refusal .ensures (now (a .weight)) []
-    ∙ nextPasses-check (a .atoms) (now (a .numbers)) (now (a .atom)) (now (a .weight)) (l .i) t))
+    record {
+      all = firstPass-fails (a .atoms) (now (a .numbers)) (now (a .atom)) (now (a .weight)) (l .i) (a .n) (omega arith)
+          (λ t. c .if2 .taken (checked (c .before) ∙ hypothesisPasses-zero (a .atoms) (hypothesesIn (now (a .numbers)) (now (a .atom)) (now (a .weight)) (l .i)) (hypothesisIn (now (a .numbers)) (now (a .atom)) (now (a .weight)) (l .i)) t));
+      seen = λ e. absurd (true≢false (sym e));
+    }
 
-wide-requires : tie.Need-wide-requires Inv-loop μ-loop
-wide-requires c κs = tt
-
-add-larger : tie.Need-add-larger Inv-loop μ-loop
-add-larger c = omega (arith, c .wide .ensures .1)
-
-larger-requires : tie.Need-larger-requires Inv-loop μ-loop
-larger-requires c κs = tt
+seen-with-requires : tie.Need-seen-with-requires Inv-loop μ-loop
+seen-with-requires c κs =
+    let a = c .before .before .before .before .before .before .before .before .before .args in
+    let l = c .before .before .before .before .before .before .before .loop in
+    let hs = hypothesesIn (now (a .numbers)) (now (a .atom)) (now (a .weight)) (l .i) in
+    omega (arith, l .inv .1 .last, hypotheses-sizes (a .atoms) hs (l .inv .2) (pred (declarationsIn hs)) .1)
 
 add-i : tie.Need-add-i Inv-loop μ-loop
 add-i c = omega arith
@@ -74,26 +93,22 @@ loop-less : tie.Need-loop-less Inv-loop μ-loop
 loop-less c = omega arith
 
 loop-again : tie.Need-loop-again Inv-loop μ-loop
+unfolding taking
 loop-again c =
     let a = c .before .before .before .before .before .before .before .before .before .before .args in
-    let l = c .before .before .before .before .before .before .before .before .before .loop in
-    let e = c .before .before in
-    let next : suc (l .i) ≡ l .i + 1 = sym (add-one (l .i)) in (
+    let l = c .before .before .before .before .before .before .before .before .loop in
+    let e = c .before in
+    let passes = sym (checked (e .before)) ∙ e .if2 .left in (
       omega arith,
-      c .larger .ensures
-          ∙ ap₂ max (l .inv .1) (ap (λ (x : ℕ). x + 1) (c .before .wide .ensures .0) ∙ add-one (getD (now (a .numbers)) (l .i) 0))
-          ∙ sym (declarationsIn-more (now (a .numbers)) [] [] (l .i))
-          ∙ ap (λ (k : ℕ). declarationsIn (hypothesesIn (now (a .numbers)) [] [] k)) next,
-      rw (← next) (firstPass-more (a .atoms) (now (a .numbers)) (now (a .atom)) (now (a .weight)) (l .i) (l .inv .2)
-          (nextPasses-of (a .atoms) (now (a .numbers)) (now (a .atom)) (now (a .weight)) (l .i) (omega arith)
-          (sym (e .before .hypothesis-refusal .ensures (now (a .weight)) []) ∙ e .if2 .left))),
+      rw (add-one, hypothesesIn-suc (now (a .numbers)) (now (a .atom)) (now (a .weight)) (l .i)) (c .seen-with .ensures _ _ (omega arith) (l .inv .1) passes),
+      rw add-one (firstPass-more (a .atoms) (now (a .numbers)) (now (a .atom)) (now (a .weight)) (l .i) (l .inv .2)
+          (hypothesisPasses-of (boardIn (a .atoms) (now (a .numbers)) (now (a .atom)) (now (a .weight)) (l .i) []) (hypothesisIn (now (a .numbers)) (now (a .atom)) (now (a .weight)) (l .i)) passes (omega arith))),
     )
 
 returns-3 : tie.Need-returns-3 Inv-loop μ-loop
 returns-3 c =
-    let a = c .before .before .args in
-    let all-of : c .before .loop .i ≡ a .n = omega arith in
-    sym (true-of-T _ (rw all-of at (c .before .loop .inv .2)))
+    let all-of : c .before .loop .i ≡ c .before .before .before .args .n = omega arith in
+    record { all = sym (true-of-T _ (rw all-of at (c .before .loop .inv .2))); seen = λ e. rw all-of at (c .before .loop .inv .1) }
 
 pub hypotheses-pass-spec : {M : Type 1} → statement M
 hypotheses-pass-spec =
@@ -101,17 +116,16 @@ hypotheses-pass-spec =
     (tie.spec
     Inv-loop
     μ-loop
+    nothing-seen-requires
     loop-holds
     element-copy-out-d
+    element-copy-out-a
     mul-w
     element-copy-out-w
     returns
-    element-copy-out-hypothesis-refusal
     hypothesis-refusal-requires
     returns-2
-    wide-requires
-    add-larger
-    larger-requires
+    seen-with-requires
     add-i
     loop-less
     loop-again

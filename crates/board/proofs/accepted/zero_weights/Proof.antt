@@ -1,35 +1,33 @@
--- `zero_weights` meets its contract: what is left to look at decides. Assumes nothing.
+-- `zero_weights` meets its contract: the digits of the weights passed, and what is left to look at, decide. Assumes nothing.
+use borrow.Author.Needs.{needs}
 use native.Mathlib.Omega.{arith}
 use native.Mathlib.Numerals.{add-one}
 use mathlib.Core.Path.{_≡_, refl, sym, ap, _∙_}
+use mathlib.Core.Bool.{_&&_, and-true}
 use Prim.Native.Nat.{ℕ, _-_}
-use lib.ListN.{length}
+use lib.Bits.{bitOr}
+use lib.Dec.{eqb}
+use lib.ListN.{length, getD}
 use denote.Ref.{now}
 use Rattle.sets.specs.Lists.{zeroFrom}
-use Rattle.board.proofs.Laws.Table.Fields.Zero.{zeroFrom-past, zeroFrom-zero, zeroFrom-other}
+use Rattle.sets.proofs.Laws.Lists.Padding.{zeroFrom-past, zeroFrom-more}
 use Rattle.board.proofs.accepted.zero_weights.Statement.{statement}
 use Rattle.board.proofs.accepted.zero_weights.Tie as tie
 
 abbrev Inv-loop : tie.InvT-loop
-Inv-loop array n i₀ i = zeroFrom n array ≡ zeroFrom i array
+Inv-loop array n digits₀ i₀ digits i = zeroFrom n array ≡ (eqb digits 0 && zeroFrom i array)
 
 abbrev μ-loop : tie.MeasureT-loop
-μ-loop array n i₀ i = length array - i
+μ-loop array n digits₀ i₀ digits i = length array - i
 
 loop-holds : tie.Need-loop-holds Inv-loop μ-loop
 loop-holds c = refl
 
-mul-if1 : tie.Need-mul-if1 Inv-loop μ-loop
-mul-if1 c = omega arith
+mul-digits : tie.Need-mul-digits Inv-loop μ-loop
+mul-digits c = search needs
 
-shared-slice-read-if1 : tie.Need-shared-slice-read-if1 Inv-loop μ-loop
-shared-slice-read-if1 c = omega arith
-
-returns : tie.Need-returns Inv-loop μ-loop
-returns c =
-    let l = c .before .before .before .loop in
-    let array = now (c .before .before .before .before .args .array) in
-    sym (l .inv ∙ zeroFrom-other (l .i) array (c .before .before .loop-test .taken) (c .if1 .taken))
+shared-slice-read-digits : tie.Need-shared-slice-read-digits Inv-loop μ-loop
+shared-slice-read-digits c = omega arith
 
 add-i : tie.Need-add-i Inv-loop μ-loop
 add-i c = omega arith
@@ -39,12 +37,15 @@ loop-less c = omega arith
 
 loop-again : tie.Need-loop-again Inv-loop μ-loop
 loop-again c =
-    let l = c .before .before .before .loop in
-    let array = now (c .before .before .before .before .args .array) in
-    l .inv ∙ zeroFrom-zero (l .i) array (c .before .before .loop-test .taken) (c .if1 .left) ∙ ap (λ (k : ℕ). zeroFrom k array) (sym (add-one (l .i)))
+    let l = c .before .before .loop in
+    let array = now (c .before .before .before .args .array) in
+    l .inv ∙ zeroFrom-more (l .i) array (c .before .loop-test .taken) (l .digits)
+    ∙ ap (λ (k : ℕ). eqb (bitOr (l .digits) (getD array (l .i) 0)) 0 && zeroFrom k array) (sym (add-one (l .i)))
 
-returns-2 : tie.Need-returns-2 Inv-loop μ-loop
-returns-2 c = sym (c .before .loop .inv ∙ zeroFrom-past (c .before .loop .i) (now (c .before .before .args .array)) (c .loop-test .left))
+returns : tie.Need-returns Inv-loop μ-loop
+returns c =
+    let l = c .before .loop in
+    sym (l .inv ∙ ap (_&&_ (eqb (l .digits) 0)) (zeroFrom-past (l .i) _ (c .loop-test .left)) ∙ and-true (eqb (l .digits) 0))
 
 pub zero-weights-spec : {M : Type 1} → statement M
 zero-weights-spec =
@@ -53,10 +54,9 @@ zero-weights-spec =
     Inv-loop
     μ-loop
     loop-holds
-    mul-if1
-    shared-slice-read-if1
-    returns
+    mul-digits
+    shared-slice-read-digits
     add-i
     loop-less
     loop-again
-    returns-2)
+    returns)

@@ -2,115 +2,153 @@
 use borrow.Author.Needs.{needs}
 use native.Mathlib.Omega.{arith}
 use mathlib.Core.Path.{_≡_, sym, _∙_}
-use mathlib.Core.Bool.{Bool, true, false, not, _||_}
-use mathlib.Core.List.{List, []}
+use mathlib.Core.Bool.{Bool, true, false, _||_}
+use mathlib.Core.List.{[], _∷_}
 use Prim.Native.Nat.{ℕ, suc}
 use lib.Dec.{eqb, leb}
 use lib.ListN.{length}
-use denote.Ref.{now}
 use borrow.Author.Tests.{le-leb, lt-leb, eq-eqb, ne-eqb, not-true, not-false}
-use Rattle.board.specs.Board.{declarationsIn, declaration, isAtomOf, isHypothesis}
-use Rattle.board.specs.Table.{hypothesesIn}
-use Rattle.board.proofs.Laws.Lent.{declarationsIn-lent}
+use Rattle.board.specs.Board.{Board, declarationsIn, declaration, isHypothesis}
+use Rattle.board.specs.File.{hypothesis}
 use Rattle.board.specs.Load.{firstFailing, fieldChecks}
+use Rattle.board.specs.Private.Seen.{SeenOf}
+use Rattle.board.proofs.Laws.Load.Seen.{atoms-member, follows-of}
 use Rattle.board.proofs.checks.hypothesis_refusal.Statement.{statement}
 use Rattle.board.proofs.checks.hypothesis_refusal.Tie as tie
 
+wide-requires : tie.Need-wide-requires
+wide-requires c κs = search needs
+
+wide-requires-2 : tie.Need-wide-requires-2
+wide-requires-2 c κs = search needs
+
 returns : tie.Need-returns
 unfolding firstFailing fieldChecks
-returns c ws rs = simp (le-leb _ _ (c .if1 .taken))
+returns c b e k = simp (le-leb (b .atoms) (c .before .before .before .args .a) (omega (arith, c .before .wide2 .ensures .0)))
 
 returns-2 : tie.Need-returns-2
 unfolding firstFailing fieldChecks
-returns-2 c ws rs = simp (lt-leb _ _ (c .before .if1 .left), le-leb _ _ (c .if2 .taken))
+returns-2 c b e k =
+    let a = c .before .before .before .before .args in
+    simp (lt-leb (b .atoms) (a .a) (omega (arith, c .before .before .wide2 .ensures .0)), le-leb 32 (a .d) (omega (arith, c .before .before .before .wide .ensures .0)))
 
 follows-requires : tie.Need-follows-requires
-follows-requires c κs = omega arith
+follows-requires c κs = c .before .before .before .wide .ensures .1
 
--- what `follows` found, said of the hypotheses with any weights
-followed : (c : tie.After-follows) (ws : List ℕ) (t : Bool) → c .follows .result ≡ t
-    → let a = c .before .before .before .args in
-    let next = declarationsIn (hypothesesIn (now (a .numbers)) (now (a .atom)) ws (a .hypotheses)) in
-    (eqb (suc (a .d)) next || eqb (a .d) next) ≡ t
-followed c ws t e =
-    let a = c .before .before .before .args in
-    rw (← declarationsIn-lent (now (a .numbers)) [] (now (a .atom)) [] ws (a .hypotheses), ← c .before .before .before .pre .1) (sym (c .follows .ensures) ∙ e)
+-- what is asked of a declaration's number: it is the last one or the next
+abbrev asked : ℕ → Board → Bool
+asked d b = eqb (suc d) (declarationsIn (b .hypotheses)) || eqb d (declarationsIn (b .hypotheses))
 
--- the checks 4 and 5 passed, where `follows` found the number to follow
-passed : (c : tie.Else3) (ws : List ℕ)
-    → let a = c .before .before .before .before .args in
-    let next = declarationsIn (hypothesesIn (now (a .numbers)) (now (a .atom)) ws (a .hypotheses)) in
-    (leb (a .atoms) (a .a) ≡ false) × ((leb 32 (a .d) || not (eqb (suc (a .d)) next || eqb (a .d) next)) ≡ false)
-passed c ws =
-    let a = c .before .before .before .before .args in (
-      lt-leb _ _ (c .before .before .before .if1 .left),
-      simp (lt-leb 32 (a .d) (omega arith), followed (c .before) ws true (not-false _ (c .if3 .left))),
-    )
+module _ (c : tie.After-follows) (b : Board) (e : b .atoms ≡ c .before .before .before .before .before .args .atoms)
+    (k : SeenOf (b .hypotheses) (c .before .before .before .before .before .args .seen)) where
+  -- check 4 passed ..
+  atom-low : leb (b .atoms) (c .before .before .before .before .before .args .a) ≡ false
+  atom-low = lt-leb (b .atoms) _ (omega (arith, c .before .before .before .wide2 .ensures .0))
+
+  -- .. and so did the first half of check 5
+  number-low : leb 32 (c .before .before .before .before .before .args .d) ≡ false
+  number-low = lt-leb 32 (c .before .before .before .before .before .args .d) (omega (arith, c .before .before .before .before .wide .ensures .0))
+
+  -- what `follows` found
+  followed : c .follows .result ≡ asked (c .before .before .before .before .before .args .d) b
+  followed =
+      let number = c .before .before .before .before .wide .ensures .0 in
+      rw (number, k .declarations) at (c .follows .ensures)
 
 returns-3 : tie.Need-returns-3
 unfolding firstFailing fieldChecks
-returns-3 c ws rs =
-    let a = c .before .before .before .before .args in
-    simp (lt-leb _ _ (c .before .before .before .if1 .left), lt-leb 32 (a .d) (omega arith), followed (c .before) ws false (not-true _ (c .if3 .taken)))
+returns-3 c b e k =
+    let f = c .before in
+    simp (atom-low f b e k, number-low f b e k, sym (followed f b e k) ∙ not-true _ (c .if3 .taken))
 
-is-among-requires : tie.Need-is-among-requires
-is-among-requires c κs = search needs
+module _ (c : tie.Else3) (b : Board) (e : b .atoms ≡ c .before .before .before .before .before .before .args .atoms)
+    (k : SeenOf (b .hypotheses) (c .before .before .before .before .before .before .args .seen)) where
+  -- check 5 passed
+  number-follows : asked (c .before .before .before .before .before .before .args .d) b ≡ true
+  number-follows = sym (followed (c .before) b e k) ∙ not-false _ (c .if3 .left)
+
+member-requires : tie.Need-member-requires
+member-requires c κs = search needs
+
+-- whether the atom is a hypothesis already
+known : (c : tie.After-member) (b : Board) → SeenOf (b .hypotheses) (c .before .before .before .before .before .before .before .args .seen)
+    → c .member .result ≡ isHypothesis b (c .before .before .before .before .before .before .before .args .a)
+unfolding isHypothesis
+known c b k = c .member .ensures ∙ atoms-member (b .hypotheses) _ (k .atoms) _
 
 returns-4 : tie.Need-returns-4
-unfolding firstFailing fieldChecks isHypothesis
-returns-4 c ws rs =
-    let p = passed (c .before .before) ws in
-    let a = c .before .before .before .before .before .before .args in
-    simp (p .0, p .1, sym (c .before .is-among .ensures (now (a .numbers)) ws) ∙ c .if4 .taken)
+unfolding firstFailing fieldChecks
+returns-4 c b e k =
+    let g = c .before .before in
+    let f = g .before in
+    simp (atom-low f b e k, number-low f b e k, number-follows g b e k, sym (known (c .before) b k) ∙ c .if4 .taken)
 
-count-of-requires : tie.Need-count-of-requires
-count-of-requires c κs = search needs
+size-of-requires : tie.Need-size-of-requires
+size-of-requires c κs = search needs
 
--- no such atom yet
-fresh : (c : tie.Else4) (ws : List ℕ) → let a = c .before .before .before .before .before .before .args in
-    isAtomOf (hypothesesIn (now (a .numbers)) (now (a .atom)) ws (a .hypotheses)) (a .a) ≡ false
-fresh c ws = let a = c .before .before .before .before .before .before .args in sym (c .before .is-among .ensures (now (a .numbers)) ws) ∙ c .if4 .left
+-- how many hypotheses its declaration has
+size : (c : tie.After-size-of) (b : Board) → b .atoms ≡ c .before .before .before .before .before .before .before .before .before .args .atoms
+    → SeenOf (b .hypotheses) (c .before .before .before .before .before .before .before .before .before .args .seen)
+    → c .size-of .result ≡ length (declaration (b .hypotheses) (c .before .before .before .before .before .before .before .before .before .args .d))
+size c b e k =
+    let g = c .before .before .before in
+    let number = g .before .before .before .before .before .wide .ensures .0 in
+    let d = g .before .before .before .before .before .before .args .d in
+    rw number at (c .size-of .ensures (b .hypotheses) k (rw number (follows-of (b .hypotheses) d (number-follows g b e k))))
 
 returns-5 : tie.Need-returns-5
-unfolding firstFailing fieldChecks isHypothesis
-returns-5 c ws rs =
-    let e = c .before .before in
-    let p = passed (e .before .before) ws in
-    let a = e .before .before .before .before .before .before .args in
-    simp (p .0, p .1, fresh e ws, le-leb _ _ (rw (c .before .count-of .ensures (now (a .atom)) ws) at (c .if5 .taken)))
+unfolding firstFailing fieldChecks
+returns-5 c b e k =
+    let h = c .before .before in
+    let g = h .before .before in
+    let f = g .before in
+    simp (
+      atom-low f b e k,
+      number-low f b e k,
+      number-follows g b e k,
+      sym (known (h .before) b k) ∙ h .if4 .left,
+      le-leb 16 _ (rw (size (c .before) b e k) at (c .if5 .taken)),
+    )
 
--- and room in the declaration
-roomy : (c : tie.Else5) (ws : List ℕ) → let a = c .before .before .before .before .before .before .before .before .args in
-    leb 16 (length (declaration (hypothesesIn (now (a .numbers)) (now (a .atom)) ws (a .hypotheses)) (a .d))) ≡ false
-roomy c ws =
-    let a = c .before .before .before .before .before .before .before .before .args in
-    lt-leb _ _ (rw (c .before .count-of .ensures (now (a .atom)) ws) at (c .if5 .left))
+-- the checks 4 to 6 passed
+module _ (c : tie.Else5) (b : Board) (e : b .atoms ≡ c .before .before .before .before .before .before .before .before .before .before .args .atoms)
+    (k : SeenOf (b .hypotheses) (c .before .before .before .before .before .before .before .before .before .before .args .seen)) where
+  to-six : (n : ℕ) → firstFailing (record { number = 7; fails = eqb (c .before .before .before .before .before .before .before .before .before .before .args .w) 0 } ∷ []) ≡ n
+      → let a = c .before .before .before .before .before .before .before .before .before .before .args in n ≡ firstFailing (fieldChecks b (hypothesis (a .d) (a .a) (a .w)))
+  unfolding firstFailing fieldChecks
+  to-six n seven =
+      let h = c .before .before in
+      let g = h .before .before in
+      let f = g .before in
+      simp (
+        atom-low f b e k,
+        number-low f b e k,
+        number-follows g b e k,
+        sym (known (h .before) b k) ∙ h .if4 .left,
+        lt-leb 16 _ (rw (size (c .before) b e k) at (c .if5 .left)),
+      ) (sym seven)
 
 returns-6 : tie.Need-returns-6
-unfolding firstFailing fieldChecks isHypothesis
-returns-6 c ws rs =
-    let e = c .before .before .before in
-    let p = passed (e .before .before) ws in
-    simp (p .0, p .1, fresh e ws, roomy (c .before) ws, eq-eqb _ _ (c .if6 .taken))
+unfolding firstFailing
+returns-6 c b e k = to-six (c .before) b e k 7 (rw (eq-eqb _ _ (c .if6 .taken)))
 
 returns-7 : tie.Need-returns-7
-unfolding firstFailing fieldChecks isHypothesis
-returns-7 c ws rs =
-    let e = c .before .before .before in
-    let p = passed (e .before .before) ws in
-    simp (p .0, p .1, fresh e ws, roomy (c .before) ws, ne-eqb _ _ (c .if6 .left))
+unfolding firstFailing
+returns-7 c b e k = to-six (c .before) b e k 0 (rw (ne-eqb _ _ (c .if6 .left)))
 
 pub hypothesis-refusal-spec : {M : Type 1} → statement M
 hypothesis-refusal-spec =
     tie.close
     (tie.spec
+    wide-requires
+    wide-requires-2
     returns
     returns-2
     follows-requires
     returns-3
-    is-among-requires
+    member-requires
     returns-4
-    count-of-requires
+    size-of-requires
     returns-5
     returns-6
     returns-7)

@@ -12,7 +12,7 @@ use borrow.Author.Tests.{not-true, not-false}
 use borrow.Author.Count.{below-none, below-more}
 use borrow.Fn.Kinds.{In}
 use borrow.Fn.PlainCycle.{Measures, is, falls, and}
-use Rattle.board.specs.Holds.{ruleHolds}
+use Rattle.board.specs.Holds.{inState, ruleHolds}
 use Rattle.board.specs.Table.{ruleIn}
 use Rattle.board.specs.Private.Remembered.{lentHolds, Remembered}
 use Rattle.board.proofs.Laws.Holds.Remembered.{told-yes, told-no, rule-everywhere, rule-not-here, lent-chosen, lent-rule, lent-none, lent-room, lent-low}
@@ -22,7 +22,7 @@ use Rattle.board.proofs.holding.+atom_holds+rule_holds.Lts-atom_holds a
 use Rattle.board.proofs.holding.rule_holds.Reads as rule
 use Rattle.board.proofs.holding.rule_holds.Kinds as rule-kinds
 use Rattle.board.proofs.holding.+atom_holds+rule_holds.Lts-rule_holds as rule-lts
-use Rattle.board.proofs.holding.in_state.Reads as in-state-reads
+use Rattle.board.proofs.walks.is_among.Reads as is-among-reads
 use Rattle.board.proofs.holding.+atom_holds+rule_holds.{statement}
 use Rattle.board.proofs.holding.+atom_holds+rule_holds.Tie.{close}
 
@@ -47,7 +47,7 @@ rule-below t = and 4 rule-kinds.ps (falls 4 rule-kinds.ps _<_ μ-rule t) rule.Pr
 
 -- what each may call
 abbrev atom-calls : ℕ → atom-lts.Claims
-atom-calls t = (in-state-reads.Asked, in-state-reads.Learnt, rule-below t, rule.Post)
+atom-calls t = (is-among-reads.Asked, is-among-reads.Learnt, rule-below t, rule.Post)
 
 abbrev rule-calls : ℕ → rule-lts.Claims
 rule-calls t = (atom-below t, atom.Post)
@@ -77,17 +77,18 @@ module _ (t : ℕ) where
       let s = c .before .before .before .before in
       (sym (s .pre .1 .1 .1 .right (s .args .a) .two (c .if2 .taken)), s .pre .1 .1 .1)
 
-  atom-in-state-requires : atom-lts.Need-in-state-requires (atom-calls t) (atom-at t) atom.Post atom-Inv atom-μ
-  atom-in-state-requires c κs = search needs
+  atom-is-among-requires : atom-lts.Need-is-among-requires (atom-calls t) (atom-at t) atom.Post atom-Inv atom-μ
+  atom-is-among-requires c κs = search needs
 
   atom-write : atom-lts.Need-element-write-known (atom-calls t) (atom-at t) atom.Post atom-Inv atom-μ
   atom-write c = search needs
 
   atom-returns-3 : atom-lts.Need-returns-3 (atom-calls t) (atom-at t) atom.Post atom-Inv atom-μ
+  unfolding inState
   atom-returns-3 c =
       let s = c .before .before .before .before .before .before in
       told-yes _ _ _ (s .pre .1 .1 .1)
-      (lent-chosen (now (s .args .head)) (now (s .args .body)) (s .args .rules) (now (s .args .state)) (s .pre .1 .0) (s .args .a) (rw (c .if3 .taken) at (c .before .in-state .ensures)))
+      (lent-chosen (now (s .args .head)) (now (s .args .body)) (s .args .rules) (now (s .args .state)) (s .pre .1 .0) (s .args .a) (rw (c .if3 .taken) at (c .before .is-among .ensures)))
 
   atom-loop-holds : atom-lts.Need-loop-holds (atom-calls t) (atom-at t) atom.Post atom-Inv atom-μ
   atom-loop-holds c = (omega arith, c .before .before .before .before .before .before .pre .1 .1 .1, below-none _)
@@ -128,11 +129,12 @@ module _ (t : ℕ) where
   atom-write-3 c = c .before .before .before .before .before .before .before .before .pre .1 .1 .0
 
   atom-returns-5 : atom-lts.Need-returns-5 (atom-calls t) (atom-at t) atom.Post atom-Inv atom-μ
+  unfolding inState
   atom-returns-5 c =
       let s = c .before .before .before .before .before .before .before .before in
       let inv = c .before .loop .inv in
       told-no _ _ _ (inv .1)
-      (lent-none (now (s .args .head)) (now (s .args .body)) (s .args .rules) (now (s .args .state)) (s .pre .1 .0) (s .args .a) (rw (c .before .before .if3 .left) at (c .before .before .before .in-state .ensures)) (λ k l. inv .2 k (omega arith)))
+      (lent-none (now (s .args .head)) (now (s .args .body)) (s .args .rules) (now (s .args .state)) (s .pre .1 .0) (s .args .a) (rw (c .before .before .if3 .left) at (c .before .before .before .is-among .ensures)) (λ k l. inv .2 k (omega arith)))
 
 -- ---- the rule test: every filled place passed has an atom that holds
 
@@ -211,7 +213,7 @@ pub +atom-holds+rule-holds-spec : {M : Type 1} → statement M
     (atom-copy-mark t)
     (atom-returns t)
     (atom-returns-2 t)
-    (atom-in-state-requires t)
+    (atom-is-among-requires t)
     (atom-write t)
     (atom-returns-3 t)
     (atom-loop-holds t)

@@ -6,6 +6,7 @@ use borrow.Author.Needs.{needs}
 use borrow.Author.Count.{below-none, below-more}
 use lib.ListN.{getD}
 use mathlib.Core.Logic.{⊎-elim}
+use mathlib.Core.List.{[]}
 use denote.Ref.{now}
 use Rattle.board.proofs.Laws.Lent.Choices.{choice-here, choice-nowhere}
 use Rattle.board.proofs.holding.is_choice.Statement.{statement}
@@ -31,9 +32,9 @@ element-copy-out-if2 : tie.Need-element-copy-out-if2 Inv-loop μ-loop
 element-copy-out-if2 c = search needs
 
 returns : tie.Need-returns Inv-loop μ-loop
-returns c w =
+returns c =
     let a = c .before .before .before .before .before .before .before .args in
-    choice-here (now (a .numbers)) (now (a .atom)) w (a .hypotheses) (a .d) (a .a) (c .before .before .before .before .before .before .loop .k)
+    choice-here (now (a .numbers)) (now (a .atom)) [] (a .hypotheses) (a .d) (a .a) (c .before .before .before .before .before .before .loop .k)
     (omega arith) (cc) (c .if2 .taken)
 
 add-k : tie.Need-add-k Inv-loop μ-loop
@@ -49,9 +50,9 @@ loop-again c = (
 )
 
 returns-2 : tie.Need-returns-2 Inv-loop μ-loop
-returns-2 c w =
+returns-2 c =
     let a = c .before .before .args in
-    choice-nowhere (now (a .numbers)) (now (a .atom)) w (a .hypotheses) (a .d) (a .a) (λ k l. c .before .loop .inv .1 k (omega arith))
+    choice-nowhere (now (a .numbers)) (now (a .atom)) [] (a .hypotheses) (a .d) (a .a) (λ k l. c .before .loop .inv .1 k (omega arith))
 
 pub is-choice-spec : {M : Type 1} → statement M
 is-choice-spec =

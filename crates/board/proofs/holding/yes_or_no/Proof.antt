@@ -2,6 +2,7 @@
 use native.Mathlib.Omega.{arith}
 use mathlib.Core.Path.{_≡_, sym, _∙_}
 use mathlib.Core.Bool.{Bool, true, false}
+use mathlib.Core.List.{[]}
 use Prim.Native.Nat.{_≤_}
 use denote.Ref.{now}
 use borrow.Author.Tests.{not-true, not-false, le-leb, lt-leb}
@@ -9,40 +10,31 @@ use Rattle.sets.proofs.Laws.Tests.{T-of-true}
 use Rattle.board.specs.Answers.{granted}
 use Rattle.board.specs.Board.{declarations, isStateOf}
 use Rattle.board.specs.Holds.{holds, inState}
-use Rattle.board.proofs.Laws.Holds.Remembered.Tables.{table-sound}
+use Rattle.board.proofs.Laws.Holds.Remembered.{table-sound}
+use Rattle.board.proofs.Laws.Lent.Choices.{isStateOf-lent}
 use Rattle.board.specs.Table.{boardOf, isTable}
-use Rattle.board.specs.Private.Fields.{Sized}
-use Rattle.board.proofs.Laws.Table.Fields.{isTable-fields, isTable-stands}
+use Rattle.board.proofs.Laws.Table.Fields.{isTable-stands, isTable-sized}
 use Rattle.board.proofs.Laws.Table.Fields.Parts.{sizes-parts}
 use Rattle.board.specs.EntryPoints.{toldMeans, yesOrNo}
-use borrow.Author.Needs.{needs}
 use Rattle.board.proofs.holding.yes_or_no.Statement.{statement}
 use Rattle.board.proofs.holding.yes_or_no.Tie as tie
 
--- the function's entry, from the fields' test
-abbrev start : tie.After-fields-stand → tie.Start
-start c = c .before .before .before .before .before .before .before .before
+is-table-requires : tie.Need-is-table-requires
+is-table-requires c κs = tt
 
--- the arrays have their lengths
-sized : (c : tie.Start) → Sized (c .args .t1)
-sized c = record { declaration = search needs; atom = search needs; weight = search needs; head = search needs; body = search needs }
-
--- the fields' test is the table's
-fields : (c : tie.After-fields-stand) → isTable (start c .args .t1) ≡ c .fields-stand .result
-fields c = isTable-fields _ (sized (start c)) ∙ sym (c .fields-stand .ensures)
-
-fields-stand-requires : tie.Need-fields-stand-requires
-fields-stand-requires c κs = search needs
+-- the function's entry, from the table's test
+abbrev start : tie.After-is-table → tie.Start
+start c = c .before .before
 
 returns : tie.Need-returns
 unfolding toldMeans yesOrNo
-returns c = simp (fields (c .before) ∙ not-true _ (c .if1 .taken))
+returns c = simp (sym (c .before .is-table .ensures) ∙ not-true _ (c .if1 .taken))
 
--- ---- what the tests found, place by place
+-- ---- what the tests found, test by test
 
 -- some file loads to the table
 accepted : (c : tie.Else1) → isTable (start (c .before) .args .t1) ≡ true
-accepted c = fields (c .before) ∙ not-false _ (c .if1 .left)
+accepted c = sym (c .before .is-table .ensures) ∙ not-false _ (c .if1 .left)
 
 room : (c : tie.Else1) → start (c .before) .args .t1 .hypotheses ≤ 128
 room c =
@@ -56,9 +48,9 @@ is-state-requires : tie.Need-is-state-requires
 is-state-requires c κs =
     let d = c .before .before .before in
     let e = d .before .before .before in
-    (room e, λ weights. d .declarations-of .ensures .0 (start (e .before) .args .t1 .atom) weights)
+    (room e, d .declarations-of .ensures .0)
 
--- the place of the first test, from that of the second
+-- the context of the first test, from that of the second
 abbrev first : tie.After-is-state → tie.Else1
 first c = c .before .before .before .before .before .before .before
 
@@ -66,7 +58,7 @@ first c = c .before .before .before .before .before .before .before
 state-test : (c : tie.After-is-state) (u : Bool) → c .is-state .result ≡ u → let a = start (first c .before) .args in
     isStateOf (declarations (boardOf (a .t1))) (now (a .state)) ≡ u
 unfolding boardOf declarations
-state-test c u e = sym (c .is-state .ensures (start (first c .before) .args .t1 .weight)) ∙ e
+state-test c u e = let t = start (first c .before) .args .t1 in isStateOf-lent (t .declaration) (t .atom) (t .weight) [] (t .hypotheses) _ ∙ sym (c .is-state .ensures) ∙ e
 
 returns-2 : tie.Need-returns-2
 unfolding toldMeans yesOrNo
@@ -87,7 +79,7 @@ holds-in-requires c κs =
     let i = c .before .before .before .before in
     let e = first (i .before .before) in
     let t = start (e .before) .args .t1 in
-    (table-sound t (T-of-true (accepted e)) (sized (start (e .before)) .body), omega (arith, sizes-parts t (isTable-stands t (T-of-true (accepted e)) .sizes), i .wide .ensures .0))
+    (table-sound t (T-of-true (accepted e)) (isTable-sized t (T-of-true (accepted e)) .body), omega (arith, sizes-parts t (isTable-stands t (T-of-true (accepted e)) .sizes), i .wide .ensures .0))
 
 -- the holding test, said of the board
 holding-test : (c : tie.After-holds-in) (u : Bool) → c .holds-in .result ≡ u
@@ -120,7 +112,7 @@ pub yes-or-no-spec : {M : Type 1} → statement M
 yes-or-no-spec =
     tie.close
     (tie.spec
-    fields-stand-requires
+    is-table-requires
     returns
     declarations-of-requires
     is-state-requires

@@ -9,7 +9,7 @@ use Rattle.board.specs.Sizes.{mostBody}
 use Rattle.board.specs.File.{lowBytes}
 use Rattle.board.proofs.Laws.File.{lowBytes-pop}
 use Rattle.board.specs.Load.{filled, filledFirst}
-use Rattle.board.proofs.Laws.Load.Places.{climbs, climbs-means, climbs-low, climbs-on, climbs-empty}
+use Rattle.board.proofs.Laws.Filled.{climbs, climbs-means, climbs-low, climbs-on, climbs-empty}
 use Rattle.board.proofs.places.ascend.Statement.{statement}
 use Rattle.board.proofs.places.ascend.Tie as tie
 

@@ -50,21 +50,21 @@ sub-i c = omega arith
 mul-packed : tie.Need-mul-packed Inv-loop μ-loop
 mul-packed c = omega (arith, room (c .before .loop .i) (c .before .loop .packed) (omega arith) (omega arith))
 
-add-wide : tie.Need-add-wide Inv-loop μ-loop
-add-wide c = omega arith
+add-wide64 : tie.Need-add-wide64 Inv-loop μ-loop
+add-wide64 c = omega arith
 
-shared-slice-read-wide : tie.Need-shared-slice-read-wide Inv-loop μ-loop
-shared-slice-read-wide c = omega arith
+shared-slice-read-wide64 : tie.Need-shared-slice-read-wide64 Inv-loop μ-loop
+shared-slice-read-wide64 c = omega arith
 
-wide-requires : tie.Need-wide-requires Inv-loop μ-loop
-wide-requires c κs = search needs
+wide64-requires : tie.Need-wide64-requires Inv-loop μ-loop
+wide64-requires c κs = search needs
 
 -- the byte that was read is one
-byte-lt : (c : tie.After-wide Inv-loop μ-loop) → c .wide .result < 256
+byte-lt : (c : tie.After-wide64 Inv-loop μ-loop) → c .wide64 .result < 256
 byte-lt c =
     let l = c .before .before .before .loop in
     let a = c .before .before .before .before .before .args in
-    omega (arith, c .wide .ensures, c .before .shared-slice-known2 .given (a .at + (l .i - 1)))
+    omega (arith, c .wide64 .ensures, c .before .shared-slice-known2 .given (a .at + (l .i - 1)))
 
 add-packed : tie.Need-add-packed Inv-loop μ-loop
 add-packed c =
@@ -80,9 +80,9 @@ loop-again c =
     let a = c .before .before .before .before .before .args in
     let one : l .i - 1 + 1 ≡ l .i = omega arith in (
       omega arith,
-      more-lt (l .i) (l .i - 1) (l .packed) (c .wide .result) one (omega arith) (byte-lt c) (l .inv .1),
-      more-bytes (l .i) (l .i - 1) (l .packed) (c .wide .result) one (omega arith) (byte-lt c) (now (a .file)) (a .at)
-          (omega arith) (c .wide .ensures) (l .inv .2),
+      more-lt (l .i) (l .i - 1) (l .packed) (c .wide64 .result) one (omega arith) (byte-lt c) (l .inv .1),
+      more-bytes (l .i) (l .i - 1) (l .packed) (c .wide64 .result) one (omega arith) (byte-lt c) (now (a .file)) (a .at)
+          (omega arith) (c .wide64 .ensures) (l .inv .2),
     )
 
 returns : tie.Need-returns Inv-loop μ-loop
@@ -101,9 +101,9 @@ eight-bytes-spec =
     loop-holds
     sub-i
     mul-packed
-    add-wide
-    shared-slice-read-wide
-    wide-requires
+    add-wide64
+    shared-slice-read-wide64
+    wide64-requires
     add-packed
     loop-less
     loop-again

@@ -1,18 +1,17 @@
 -- The parts of the test of a table field by field: the sizes, the hypotheses, each rule, W, and the unused room of each array. Assumes nothing.
 use Prim.Native.Nat.{ℕ, _*_, _≤_, _<_}
-use mathlib.Core.Bool.{Bool, _&&_}
+use mathlib.Core.Bool.{Bool}
 use mathlib.Core.List.{List, []}
 use lib.Dec.{T, leb, leb→le, le→leb}
 use Rattle.sets.specs.Lists.{all, below, zeroFrom}
 use Rattle.sets.proofs.Laws.Lists.{all-at}
-use Rattle.sets.proofs.Laws.Lists.Places.{below-of, all-below}
-use Rattle.sets.proofs.Laws.Tests.{and-left, and-right, and-five, five-and}
+use Rattle.sets.proofs.Laws.Lists.Indices.{below-of, all-below}
+use Rattle.sets.proofs.Laws.Tests.{four-and, and-five, five-and}
 use Rattle.board.specs.Sizes.{mostAtoms, mostRules, mostBody, mostW}
 use Rattle.board.specs.Board.{Hypothesis, W}
-use Rattle.board.specs.Accepted.{within}
-use Rattle.board.proofs.Laws.Accepted.Within.{within-low, within-high}
 use Rattle.board.specs.Table.{hypothesesIn, boardOf}
-use Rattle.board.specs.Private.Fields.{ruleStands, sizesStand, roomStands, sizesOf, roomOf, fieldsStand}
+use Rattle.board.specs.Private.Fields.{ruleStands, sizesStand, roomStands}
+use Rattle.board.proofs.Laws.Table.Fields.Whole.{sizesOf, roomOf, fieldsStand}
 use Rattle.board.specs.Private.Passes.{hypothesesPass}
 use Rattle.board.specs.declared.Table.{Table}
 
@@ -50,15 +49,8 @@ unfolding fieldsStand
 pub sizes-parts : (t : Table) → T (sizesOf t) → (1 ≤ t .atoms) × (t .atoms ≤ mostAtoms) × (t .hypotheses ≤ mostAtoms) × (t .rules ≤ mostRules)
 unfolding sizesStand
 sizes-parts t s =
-    let a : Bool = within 1 mostAtoms (t .atoms) in
-    let h : Bool = leb (t .hypotheses) mostAtoms in
-    let r : Bool = leb (t .rules) mostRules in
-    let k : T (a && h) = and-left (a && h) r s in (
-      within-low 1 mostAtoms (t .atoms) (and-left a h k),
-      within-high 1 mostAtoms (t .atoms) (and-left a h k),
-      leb→le (t .hypotheses) mostAtoms (and-right a h k),
-      leb→le (t .rules) mostRules (and-right (a && h) r s),
-    )
+    let k = four-and (leb 1 (t .atoms)) (leb (t .atoms) mostAtoms) (leb (t .hypotheses) mostAtoms) (leb (t .rules) mostRules) s in
+    (leb→le 1 (t .atoms) (k .0), leb→le (t .atoms) mostAtoms (k .1), leb→le (t .hypotheses) mostAtoms (k .2), leb→le (t .rules) mostRules (k .3))
 
 -- the unused room, array by array
 abbrev pub RoomParts : Table → Type 0

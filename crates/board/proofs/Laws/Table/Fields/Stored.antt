@@ -7,36 +7,27 @@ use mathlib.Core.List.{List, [], map, map-map, flatten}
 use lib.Dec.{T}
 use lib.ListN.{length, getD, take, length-take, length-drop}
 use lib.Seq.{take-add}
-use borrow.Author.Tests.{ne-eqb, le-ltb}
 use Rattle.sets.specs.Lists.{pad, below, zeroFrom}
 use Rattle.sets.proofs.Laws.Lists.Flatten.{flatten-map-snoc}
 use Rattle.sets.proofs.Laws.Lists.Padding.{pad-take}
-use Rattle.sets.proofs.Laws.Lists.Places.{map-getD-take}
-use Rattle.board.specs.Sizes.{mostAtoms, mostRules, mostBody, mostW}
-use Rattle.board.specs.Board.{Board, Hypothesis, Rule, W}
-use Rattle.board.specs.File.{count, rule, finish}
+use Rattle.sets.proofs.Laws.Lists.Indices.{map-getD-take}
+use Rattle.board.specs.Sizes.{mostAtoms, mostRules, mostBody}
+use Rattle.board.specs.Board.{Hypothesis, Rule}
+use Rattle.board.specs.File.{rule}
 use Rattle.board.specs.Load.{noBoard, fieldChecks, firstFailing, taking}
-use Rattle.board.proofs.Laws.Load.Checks.{rule-filledFirst}
-use Rattle.board.proofs.Laws.Load.{recordPasses-zero, soFar-of, soFar-rule, boardPasses-of}
+use Rattle.board.proofs.Laws.Load.Checks.{rule-filledFirst, count-passes, finish-passes}
+use Rattle.board.proofs.Laws.Load.{recordPasses-zero, soFar-of, soFar-rule}
 use Rattle.board.proofs.Laws.Load.Rules.{afterRules}
 use Rattle.board.specs.Table.{hypothesisIn, placesIn, ruleIn, hypothesesIn, rulesIn, boardOf, placesOf, tableOf}
-use Rattle.board.specs.Private.Fields.{Sized, ruleStands}
-use Rattle.board.specs.Private.Passes.{hypothesesPass, rulesPass, soFar, boardPasses}
-use Rattle.board.proofs.Laws.Table.Places.{placesOf-filled}
-use Rattle.board.proofs.Laws.Table.Taking.{table-path}
+use Rattle.board.specs.Private.Fields.{ruleStands}
+use Rattle.board.proofs.Laws.Table.Fields.Whole.{Sized}
+use Rattle.board.specs.Private.Passes.{eachPasses, hypothesesPass}
+use Rattle.board.proofs.Laws.Load.Passes.{soFar, BoardPasses}
+use Rattle.board.proofs.Laws.Filled.{placesOf-filled}
+use Rattle.board.proofs.Laws.Table.Arrays.{table-path}
 use Rattle.board.proofs.Laws.Lent.{length-hypothesesIn, rulesIn-suc, rulesIn-zero, length-rulesIn}
 use Rattle.board.proofs.Laws.Table.Fields.Parts.{hypothesesOf, Stands, sizes-parts, room-parts}
 use Rattle.board.specs.declared.Table.{Table}
-
--- 1 to 128 atoms pass as a count
-count-zero : (b : Board) (n : ℕ) → 1 ≤ n → n ≤ mostAtoms → firstFailing (fieldChecks b (count n)) ≡ 0
-unfolding fieldChecks firstFailing
-count-zero b n l h = rw (ne-eqb n 0 (λ e. omega arith), le-ltb mostAtoms n h)
-
--- a W within its bound passes the end record
-finish-zero : (b : Board) → W b ≤ mostW → firstFailing (fieldChecks b finish) ≡ 0
-unfolding fieldChecks firstFailing
-finish-zero b h = rw (le-ltb mostW (W b) h)
 
 module _ (atoms : ℕ) (hs : List Hypothesis) (head body : List ℕ) where
   -- eight places of an array that has as many
@@ -52,8 +43,8 @@ module _ (atoms : ℕ) (hs : List Hypothesis) (head body : List ℕ) where
   -- the first n rules are read after the hypotheses, if each of them stands
   rules-soFar : 1 ≤ atoms → atoms ≤ mostAtoms → T (hypothesesPass atoms [] hs) → (n : ℕ) → mostBody * n ≤ length body
       → ((j : ℕ) → j < n → T (ruleStands atoms hs head body j)) → T (soFar (afterRules atoms hs (rulesIn head body n)))
-  unfolding taking rulesPass
-  rules-soFar one most h zero l s = rw rulesIn-zero (soFar-of (afterRules atoms hs []) (count-zero noBoard atoms one most) h tt)
+  unfolding taking eachPasses
+  rules-soFar one most h zero l s = rw rulesIn-zero (soFar-of (afterRules atoms hs []) (count-passes noBoard atoms one most) h tt)
   rules-soFar one most h (suc n) l s =
       rw rulesIn-suc
       (soFar-rule (afterRules atoms hs (rulesIn head body n)) (getD head n 0) (placesIn body n)
@@ -90,13 +81,14 @@ module _ (t : Table) (sized : Sized t) (s : Stands t) where
   places-room = omega (arith, sized .body, sizes-parts t (s .sizes) .3)
 
   -- it passes
-  pub stands-passes : T (boardPasses (boardOf t))
+  pub stands-passes : BoardPasses (boardOf t)
   unfolding boardOf
   stands-passes =
       let k = sizes-parts t (s .sizes) in
-      boardPasses-of (boardOf t)
-      (rules-soFar (t .atoms) (hypothesesOf t) (t .head) (t .body) (k .0) (k .1) (s .hypotheses) (t .rules) places-room (s .rules))
-      (finish-zero (boardOf t) (s .weight))
+      record {
+        read = rules-soFar (t .atoms) (hypothesesOf t) (t .head) (t .body) (k .0) (k .1) (s .hypotheses) (t .rules) places-room (s .rules);
+        finished = finish-passes (boardOf t) (s .weight);
+      }
 
   -- the table holds it and nothing else
   pub stands-stored : t ≡ tableOf (boardOf t)
