@@ -2,13 +2,13 @@
 -- between its parts. The first line is W. Each further line is a weight and the set's atoms, ascending. The last has the ends, the steps of this
 -- run, then done, more or the refusal's number." Assumes nothing.
 use Prim.Native.Nat.{ℕ, zero, suc, _+_, _*_, _/_, _%_}
-use Prim.Native.Char.{Char, code}
+use Prim.Native.Char.{code}
 use Prim.Native.String.{String, [] as ε, _∷_ as _▸_}
-use mathlib.Core.Bool.{Bool, true, false, cond}
+use mathlib.Core.Bool.{true, false, cond}
 use mathlib.Core.List.{List, [], _∷_, _++_, map, flatten}
 use mathlib.Core.Option.{Option, none, some}
 use lib.Dec.{ltb}
-use lib.ListN.{length, getD, take, drop}
+use lib.ListN.{length, getD, take}
 use Rattle.sets.specs.Sets.{members}
 use Rattle.board.specs.Answers.{FileAnswer, accepted, refusedAt, Answer, granted, refused}
 use Rattle.board.specs.Board.{Board, W}
@@ -38,17 +38,18 @@ decimal n = decimalOf (suc n) n
 
 -- ---- the parts of a listing
 
--- a weight and the set's atoms, ascending
+-- "Each further line is a weight and the set's atoms, ascending."
 unfoldable pub lineText : Line → List ℕ
 lineText l =
     decimal (l .weight) ++ flatten (map (λ a. bytesOf " " ++ decimal a) (members (l .chosen))) ++ bytesOf "\n"
 
+-- "then done, more or the refusal's number"
 unfoldable pub endingText : Ending → List ℕ
 endingText done = bytesOf "done"
 endingText more = bytesOf "more"
 endingText (stopped number) = decimal number
 
--- the ends, the steps of this run, and how it ended
+-- "The last has the ends, the steps of this run, then .."
 unfoldable pub lastText : RunAnswer → List ℕ
 lastText r =
     bytesOf "low "
@@ -61,6 +62,7 @@ lastText r =
     ++ endingText (r .ending)
     ++ bytesOf "\n"
 
+-- "The first line is W"; the lines; the last line
 unfoldable pub ranText : Board → RunAnswer → List ℕ
 ranText b r =
     bytesOf "total "
@@ -80,6 +82,7 @@ refusedFileText number place =
 
 -- ---- the listing
 
+-- what is printed once the question is opened or refused
 unfoldable pub openedText : Limits → Board → Answer Search → ℕ → List ℕ
 openedText limits b (granted s) allowance = ranText b (runSearch limits (tableOf b) (storedOf s) allowance)
 openedText limits b (refused number) allowance = refusedText number
@@ -93,6 +96,7 @@ askedText limits b (count ∷ input) =
     (openedText limits b (openQuestion (tableOf b) (take count input))
     (getD input count 0 + 256 * getD input (count + 1) 0))
 
+-- what is printed once the file is loaded or refused: of a refused file "the question is not looked at"
 unfoldable pub loadedText : Limits → FileAnswer Board → List ℕ → List ℕ
 loadedText limits (accepted b) input = askedText limits b input
 loadedText limits (refusedAt number place) input = refusedFileText number place
