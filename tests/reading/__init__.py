@@ -1,0 +1,1 @@
+"""A second reading of document 01, a module a section; see enumerator.py."""
