@@ -49,13 +49,13 @@ pub fn with(s: Mask, a: u8) -> Mask
             high: s.high,
         };
     }
-    if a < 128 {
-        return Mask {
-            low: s.low,
-            high: s.high | (1u64 << (a - 64)),
-        };
+    if 127 < a {
+        return s;
     }
-    s
+    Mask {
+        low: s.low,
+        high: s.high | (1u64 << (a - 64)),
+    }
 }
 
 // The set less `a`; an atom past 127 was not in it.

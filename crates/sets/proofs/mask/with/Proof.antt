@@ -13,17 +13,17 @@ shl-t5 c = search needs
 returns : tie.Need-returns
 returns c = let a = c .before .before .args in with-low-word (a .s) (omega arith) (a .a) (omega arith)
 
+returns-2 : tie.Need-returns-2
+returns-2 c = let a = c .before .before .args in sym (withAtom-past (a .a) (maskMeans (a .s)) (omega arith))
+
 cast-t8 : tie.Need-cast-t8
 cast-t8 c = search needs
 
 shl-t9 : tie.Need-shl-t9
 shl-t9 c = search needs
 
-returns-2 : tie.Need-returns-2
-returns-2 c = let a = c .before .before .before .args in with-high-word (a .s) (omega arith) (a .a) (omega arith) (omega arith)
-
 returns-3 : tie.Need-returns-3
-returns-3 c = let a = c .before .before .args in sym (withAtom-past (a .a) (maskMeans (a .s)) (omega arith))
+returns-3 c = let a = c .before .before .before .args in with-high-word (a .s) (omega arith) (a .a) (omega arith) (omega arith)
 
 pub with-spec : {M : Type 1} → statement M
-with-spec = tie.close (tie.spec shl-t5 returns cast-t8 shl-t9 returns-2 returns-3)
+with-spec = tie.close (tie.spec shl-t5 returns returns-2 cast-t8 shl-t9 returns-3)
