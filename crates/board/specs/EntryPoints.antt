@@ -1,5 +1,5 @@
--- The entry points of `board`, as the contracts cite them: what each gives, and for each answer that is an enum of the code the paper's number
--- and values of its cases. Document 01: "A refused load returns the table whose every field is zero. .. A refused yes-or-no or share returns its
+-- The entry points of `files` and `holding`, as the contracts cite them: what each gives, and for each answer that is an enum of the code the paper's
+-- number and values of its cases. Document 01: "A refused load returns the table whose every field is zero. .. A refused yes-or-no or share returns its
 -- number alone." Assumes nothing.
 use Prim.Native.Nat.{ℕ}
 use mathlib.Core.Path.{_≡_}
@@ -14,10 +14,10 @@ use Rattle.board.specs.File as file
 use Rattle.board.specs.File.{Found, lowBytes}
 use Rattle.board.specs.Table.{boardOf, tableIn, isTable}
 use Rattle.board.specs.declared.Table.{Table}
-use Rattle.board.specs.declared.record.Record.{Record}
-use Rattle.board.specs.declared.record.Record.the-variants.{Count, Hypothesis, Rule, End}
-use Rattle.board.specs.declared.record.Read.{Read}
-use Rattle.board.specs.declared.record.Read.the-variants as read
+use Rattle.board.specs.declared.Record.{Record}
+use Rattle.board.specs.declared.Record.the-variants.{Count, Hypothesis, Rule, End}
+use Rattle.board.specs.declared.Read.{Read}
+use Rattle.board.specs.declared.Read.the-variants as read
 use Rattle.board.specs.declared.Loaded.{Loaded}
 use Rattle.board.specs.declared.Loaded.the-variants as loaded
 use Rattle.board.specs.declared.Loading.{Loading}

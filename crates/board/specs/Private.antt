@@ -1,8 +1,5 @@
--- What only contracts of private functions cite. Nothing here has to be believed. Assumes nothing.
+-- What only contracts of private functions cite, here or in the crates above. Nothing here has to be believed. Assumes nothing.
+pub mod Bodies
 pub mod Fields
-pub mod Filled
 pub mod Lent
 pub mod Passes
-pub mod Remembered
-pub mod Seen
-pub mod Taking

@@ -85,7 +85,7 @@ fn board_item(s: &[u8], at: usize) -> usize
     let start = file.start;
     let end = file.end;
     let mut line = [0u8; 64];
-    let n = loading_line(board::load::load(&s[start..end]), &mut line);
+    let n = loading_line(files::load::load(&s[start..end]), &mut line);
     write(line, n);
     end
 }
@@ -101,11 +101,11 @@ fn state_item(s: &[u8], at: usize) -> usize
     let state = state_at(s, end);
     let first = state.start;
     let last = state.end;
-    let loading = board::load::load(&s[start..end]);
+    let loading = files::load::load(&s[start..end]);
     let table = loading.table;
     let mut line = [0u8; 64];
     let n = told_line(
-        board::holding::yes_or_no(table, &s[first..last], byte_at(s, last)),
+        holding::yes_or_no(table, &s[first..last], byte_at(s, last)),
         &mut line,
     );
     write(line, n);
@@ -122,7 +122,7 @@ fn record_item(s: &[u8], at: usize) -> usize
     let end = file.end;
     let place = four_bytes(s, end);
     let mut line = [0u8; 64];
-    let n = read_line(board::record::read_record(&s[start..end], place), &mut line);
+    let n = read_line(files::record::read_record(&s[start..end], place), &mut line);
     write(line, n);
     past(s, end, 4)
 }
@@ -134,7 +134,7 @@ fn changed(file: &[u8], s: &[u8], at: usize) -> Table
     let field = byte_at(s, at);
     let index = two_bytes(s, past(s, at, 1));
     let value = four_bytes(s, past(s, at, 3));
-    let loading = board::load::load(file);
+    let loading = files::load::load(file);
     set_field(loading.table, field, index, value)
 }
 
@@ -148,7 +148,7 @@ fn table_item(s: &[u8], at: usize) -> usize
     let end = file.end;
     let table = changed(&s[start..end], s, end);
     let mut line = [0u8; 64];
-    let n = table_line(board::accepted::is_table(table), &mut line);
+    let n = table_line(files::accepted::is_table(table), &mut line);
     write(line, n);
     past(s, end, 7)
 }

@@ -2,8 +2,8 @@
 use crate::line::put;
 use crate::line::put_next;
 use crate::line::put_refusal;
-use board::record::Read;
-use board::record::Record;
+use board::Read;
+use board::Record;
 ghost use Prim.Native.Nat.{_≤_};
 
 // Puts the eight places of a rule, the first one in the low byte, and answers the place after them.

@@ -3,13 +3,10 @@ pub mod Checks
 pub mod Each
 pub mod Hypotheses
 pub mod Loaded
-pub mod Passed
 pub mod Passes
-pub mod Progress
 pub mod Reading
 pub mod Room
 pub mod Rules
-pub mod Seen
 pub mod Steps
 use Prim.Native.Nat.{ℕ, _^_, _<_}
 use native.Mathlib.Omega.{arith}

@@ -1,9 +1,11 @@
--- Which records pass their field checks, and which hypotheses do so one after another. Assumes nothing.
-use Prim.Native.Nat.{ℕ, _^_}
+-- Which records pass their field checks, which hypotheses do so one after another, and which declaration may come next. Assumes nothing.
+use Prim.Native.Nat.{ℕ, suc, _^_}
+use mathlib.Core.Path.{_≡_}
+use mathlib.Core.Logic.{_⊎_}
 use mathlib.Core.Bool.{Bool, true, _&&_}
 use mathlib.Core.List.{List, [], _∷_, _++_}
 use lib.Dec.{eqb, ltb}
-use Rattle.board.specs.Board.{Board, Hypothesis}
+use Rattle.board.specs.Board.{Board, Hypothesis, declarationsIn}
 use Rattle.board.specs.File.{Record, hypothesis}
 use Rattle.board.specs.Load.{fieldChecks, firstFailing}
 
@@ -25,3 +27,7 @@ hypothesisPasses atoms before h =
 -- hypotheses, each after those before it
 abbrev pub hypothesesPass : ℕ → List Hypothesis → List Hypothesis → Bool
 hypothesesPass atoms = eachPasses (hypothesisPasses atoms)
+
+-- d is the number of the last declaration or the next one's
+abbrev pub Follows : List Hypothesis → ℕ → Type 0
+Follows hs d = (suc d ≡ declarationsIn hs) ⊎ (d ≡ declarationsIn hs)

@@ -3,21 +3,27 @@
 use Prim.Native.Nat.{ℕ, suc, _≤_, _<_}
 use native.Mathlib.Omega.{arith}
 use mathlib.Core.Path.{_≡_, refl}
-use mathlib.Core.Logic.{_⊎_, inl, inr}
+use mathlib.Core.Logic.{_⊎_, inl, inr, ⊎-elim}
 use mathlib.Core.Bool.{Bool, true, false, _&&_, _||_, or-true}
 use mathlib.Core.List.{List, _∷_, List·Memᴰ}
 use lib.ListN.{length}
-use lib.Dec.{T, leb, eqb, leb→le}
+use lib.Dec.{T, leb, eqb, leb→le, eqb→eq}
 use borrow.Author.Tests.{ltb-false, leb-false, eqb-false, not-false, le-ltb, lt-leb, eq-eqb, ne-eqb}
 use Rattle.sets.specs.Lists.{any, ascending}
 use Rattle.sets.proofs.Laws.Lists.{any-none, none-at}
-use Rattle.sets.proofs.Laws.Tests.{T-of-true, true-of-T, and-left, and-right, or-false-left, or-false-right}
+use Rattle.sets.proofs.Laws.Tests.{T-of-true, true-of-T, and-left, and-right, or-cases, or-false-left, or-false-right}
 use Rattle.board.specs.Sizes.{mostAtoms, mostDeclarations, mostHypotheses, mostRules, mostW}
-use Rattle.board.specs.Board.{Board, declaration, isHypothesis, W}
+use Rattle.board.specs.Board.{Board, Hypothesis, declarationsIn, declaration, isHypothesis, W}
 use Rattle.board.specs.File.{count, hypothesis, rule, finish}
-use Rattle.board.specs.Private.Seen.{Follows}
-use Rattle.board.proofs.Laws.Load.Seen.{follows-of}
+use Rattle.board.specs.Private.Passes.{Follows}
 use Rattle.board.specs.Load.{Check, firstFailing, fieldChecks, filled, filledFirst}
+
+-- what check 5 asks of a declaration's number
+pub follows-of : (hs : List Hypothesis) (d : ℕ) → (eqb (suc d) (declarationsIn hs) || eqb d (declarationsIn hs)) ≡ true → Follows hs d
+follows-of hs d e =
+    let last : Bool = eqb (suc d) (declarationsIn hs) in
+    let next : Bool = eqb d (declarationsIn hs) in
+    ⊎-elim (λ t. inl (eqb→eq (suc d) (declarationsIn hs) t)) (λ t. inr (eqb→eq d (declarationsIn hs) t)) (or-cases last next (T-of-true e))
 
 -- where no check fails, the first does not, and none of the others
 passed : (k : ℕ) (t : Bool) (rest : List Check) → firstFailing (record { number = suc k; fails = t } ∷ rest) ≡ 0 → (t ≡ false) × (firstFailing rest ≡ 0)
