@@ -1,5 +1,6 @@
 // Boards: what a board, its file and its table are, said in `specs/`, with the laws that the crates above cite; the types of the table and of the answers;
-// and in code the few facts of a table that the crates above ask for once (`facts`). This crate knows nothing of searching.
+// and in code the few facts of a table that the crates above ask for once (`facts`), and what they are made of (`walks`, `weights`). This crate knows
+// nothing of searching.
 //
 // The code that reads files and tells which tables some file loads to is the crate `files`; the yes-or-no is the crate `holding`.
 pub mod facts;

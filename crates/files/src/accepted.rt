@@ -1,4 +1,5 @@
-// Which tables are accepted: those that some file loads to (document 01, refusal 20). The test goes once over the hypotheses and once over the rules.
+// Which tables are accepted: those that some file loads to (document 01, refusal 20). The checks go once over the hypotheses and once over the rules; W
+// takes two walks more over the hypotheses.
 use crate::checks::Seen;
 use crate::checks::hypothesis_refusal;
 use crate::checks::nothing_seen;

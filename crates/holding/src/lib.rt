@@ -1,6 +1,6 @@
 // What holds in a board state (document 01, "Board tables and board states"): the atom test and the rule test as its two sentences stand,
-// and the test that some atoms are a board state. The arrays of a table are lent one by one,
-// those of one struct at one lifetime.
+// and the test that some atoms are a board state. `yes_or_no` is the one entry point; what it means is in `specs/` of the crate `board`.
+// The arrays of a table are lent one by one, those of one struct at one lifetime.
 //
 // The counts of basic steps below are for r rules, n hypotheses and a state of d atoms.
 use board::Table;
@@ -34,7 +34,7 @@ fn is_among(bytes: &[u8], x: u8) -> bool
 
 // "An atom holds in a board state if it is chosen or if one of its rules holds." What is found is kept in `known`, a mark an atom: 1 it holds,
 // 2 it does not, 0 not asked yet. An atom that has its mark takes 5 steps. One that has none goes through the rules once and then has it, so with
-// all that it calls this is at most some (a + 1) * (5 d + 5 r + 14) + 120 r steps, 2 * a + 2 calls deep.
+// all that it calls this is at most some (a + 1) * (5 d + 5 r + 17) + 120 r steps, 2 * a + 2 calls deep.
 fn atom_holds(
     head: &[u8; 256],
     body: &[u8; 2048],
@@ -105,7 +105,7 @@ fn rule_holds(
     true
 }
 
-// Whether the atom holds in the state, by these rules: at most some (a + 1) * (5 d + 5 r + 14) + 120 r + 130 steps.
+// Whether the atom holds in the state, by these rules: at most some (a + 1) * (5 d + 5 r + 17) + 120 r + 130 steps.
 fn holds_in<'a>(
     head: &'a [u8; 256],
     body: &'a [u8; 2048],

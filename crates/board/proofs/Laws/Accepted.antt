@@ -24,7 +24,7 @@ use Rattle.board.proofs.Laws.Load.Loaded.{loaded-passes}
 use Rattle.board.proofs.Laws.Load.Room.{atoms-room, soFar-room}
 use Rattle.board.proofs.Laws.Load.Rules.{rules-accepted}
 use Rattle.board.specs.Accepted.{AcceptedRule, Accepted}
-use Rattle.board.specs.Private.Bodies.{BodiesBelow}
+use Rattle.board.proofs.Laws.Holds.{BodiesBelow}
 use Rattle.sets.proofs.Laws.Lists.Distinct.{distinct-members}
 use Rattle.board.proofs.Laws.Load.Passes.{BoardPasses}
 

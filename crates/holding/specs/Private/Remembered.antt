@@ -3,14 +3,13 @@
 -- Assumes nothing.
 use mathlib.Core.Path.{_≡_}
 use mathlib.Core.Bool.{Bool, true, false}
-use mathlib.Core.List.{List, []}
+use mathlib.Core.List.{List, [], List·Memᴰ}
 use Prim.Native.Nat.{ℕ, _*_, _≤_, _<_}
 use lib.ListN.{length, getD}
 use Rattle.board.specs.Sizes.{mostAtoms, mostRules, mostBody}
 use Rattle.board.specs.Board.{Board, Rule, Hypothesis}
 use Rattle.board.specs.Holds.{holds, inState}
 use Rattle.board.specs.Table.{rulesIn}
-use Rattle.board.specs.Private.Bodies.{BodiesBelow}
 
 -- a board that has these rules and nothing else
 abbrev pub rulesAlone : List Rule → Board
@@ -29,7 +28,7 @@ pub record SoundRules (head body : List ℕ) (n : ℕ) : Type 0 where
   pub few : n ≤ mostRules
   pub room : mostBody * n ≤ length body
   pub heads : (i : ℕ) → i < n → getD head i 0 < mostAtoms
-  pub low : BodiesBelow (rulesIn head body n)
+  pub low : (r : Rule) → List·Memᴰ r (rulesIn head body n) → (a : ℕ) → List·Memᴰ a (r .body) → a < r .head
 
 -- a mark says of an atom that it holds (1), that it does not (2), or nothing yet (0)
 pub record RightMark (holding : Bool) (mark : ℕ) : Type 0 where
