@@ -3,7 +3,7 @@ use native.Mathlib.Omega.{arith}
 use mathlib.Core.Path.{_≡_, sym, _∙_}
 use mathlib.Core.Bool.{Bool, true, false}
 use mathlib.Core.List.{[]}
-use Prim.Native.Nat.{_≤_, min}
+use Prim.Native.Nat.{_≤_}
 use denote.Ref.{now}
 use borrow.Author.Tests.{not-true, not-false, le-leb, lt-leb}
 use Rattle.sets.proofs.Laws.Tests.{T-of-true}
@@ -13,6 +13,7 @@ use Rattle.board.specs.Holds.{holds, inState}
 use Rattle.holding.proofs.Laws.Remembered.{table-sound}
 use Rattle.holding.proofs.Laws.Choices.{isStateOf-lent}
 use Rattle.board.specs.Table.{boardOf, isTable}
+use Rattle.board.proofs.Laws.Facts.{table-count}
 use Rattle.board.proofs.Laws.Table.Fields.{isTable-stands, isTable-sized}
 use Rattle.board.proofs.Laws.Table.Fields.Parts.{sizes-parts}
 use Rattle.board.specs.EntryPoints.{toldMeans, yesOrNo}
@@ -48,8 +49,7 @@ is-state-requires : tie.Need-is-state-requires
 is-state-requires c κs =
     let d = c .before .before .before in
     let e = d .before .before .before in
-    let whole : min (start (e .before) .args .t1 .hypotheses) 128 ≡ start (e .before) .args .t1 .hypotheses = omega (arith, room e) in
-    (room e, rw whole at (d .declarations-of .ensures .0 [] []))
+    (room e, rw (table-count (start (e .before) .args .t1) (T-of-true (accepted e))) at (d .declarations-of .ensures .0 [] []))
 
 -- the context of the first test, from that of the second
 abbrev first : tie.After-is-state → tie.Else1
