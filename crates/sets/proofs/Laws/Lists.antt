@@ -8,7 +8,7 @@ pub mod Indices
 pub mod Padding
 pub mod Products
 use mathlib.Core.Path.{_≡_, refl, sym, ap, ap₂, _∙_}
-use mathlib.Core.Bool.{Bool, true, false, _&&_, _||_, cond, false≢true}
+use mathlib.Core.Bool.{Bool, true, false, _&&_, _||_, cond, true≢false, false≢true}
 use mathlib.Core.List.{List, [], _∷_, map, List·Memᴰ, List·Memᴰ·head, List·Memᴰ·tail, List·Memᴰ·not-nil}
 use mathlib.Core.Logic.{_⊎_, inl, inr}
 use Prim.Native.Nat.{ℕ, _≤_}
@@ -168,6 +168,12 @@ module _ {ℓ} {A : Type ℓ} where
   unfolding isEmpty
   empty-nil [] h = refl
   empty-nil (x ∷ xs) h = absurd (false≢true h)
+
+  -- a list that is not empty has an element
+  pub empty-not : (xs : List A) → isEmpty xs ≡ false → (x : A) × List·Memᴰ x xs
+  unfolding isEmpty
+  empty-not [] h = absurd (true≢false h)
+  empty-not (x ∷ xs) h = (x, List·Memᴰ·head refl)
 
   -- of a list of one at most, two elements are equal
   pub short-equal : (xs : List A) → length xs ≤ 1 → {x y : A} → List·Memᴰ x xs → List·Memᴰ y xs → x ≡ y

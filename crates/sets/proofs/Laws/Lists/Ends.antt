@@ -1,13 +1,13 @@
 -- Laws of lists that are put together: what `all`, `any`, `keep`, `sum`, `product` and `below` make of two lists in a row, or of one element more
--- at the end. Assumes nothing.
+-- at the end; and of lists the other way round. Assumes nothing.
 use mathlib.Core.Path.{_≡_, refl, sym, ap, _∙_}
 use Prim.Native.Nat.{ℕ, zero, suc, _+_, _*_}
 use native.Mathlib.Nat.{mul-assoc, one-mul, mul-one, zero-add, add-zero, suc-add}
 use native.Mathlib.Numerals.{add-one}
 use native.Mathlib.Omega.{arith}
 use mathlib.Core.Bool.{Bool, true, false, _&&_, _||_, cond, and-assoc, or-assoc, or-false}
-use mathlib.Core.List.{List, [], _∷_, _++_, map, map-append, append-nil}
-use Rattle.sets.specs.Lists.{any, all, keep, sum, product, numbersFrom, below}
+use mathlib.Core.List.{List, [], _∷_, _++_, map, map-append, append-nil, reverse, reverseAux, reverse-append}
+use Rattle.sets.specs.Lists.{any, all, keep, sum, product, numbersFrom, below, belowDown}
 
 module _ {ℓ} {A : Type ℓ} where
   -- all of two lists in a row pass exactly if all of each do
@@ -48,11 +48,16 @@ module _ {ℓ} {A : Type ℓ} where
   unfolding keep
   keep-snoc-false p xs x e = keep-append p xs (x ∷ []) ∙ rw e (append-nil (keep p xs))
 
+-- the sum of two lists in a row
+pub sum-append : (xs ys : List ℕ) → sum (xs ++ ys) ≡ sum xs + sum ys
+unfolding sum
+sum-append [] ys = omega arith
+sum-append (x ∷ xs) ys = omega (arith, sum-append xs ys)
+
 -- the sum with one number more
 pub sum-snoc : (xs : List ℕ) (x : ℕ) → sum (xs ++ (x ∷ [])) ≡ sum xs + x
 unfolding sum
-sum-snoc [] x = omega arith
-sum-snoc (y ∷ ys) x = omega (arith, sum-snoc ys x)
+sum-snoc xs x = omega (arith, sum-append xs (x ∷ []))
 
 -- the product of two lists in a row
 pub product-append : (xs ys : List ℕ) → product (xs ++ ys) ≡ product xs * product ys
@@ -79,3 +84,20 @@ below-snoc n = ap (numbersFrom 0) (sym (add-one n)) ∙ numbersFrom-append 0 n 1
 -- what a list made of the numbers below one more ends in
 pub map-below-snoc {ℓ} : {A : Type ℓ} (f : ℕ → A) (n : ℕ) → map f (below (suc n)) ≡ map f (below n) ++ (f n ∷ [])
 map-below-snoc f n = ap (map f) (below-snoc n) ∙ map-append f (below n) (n ∷ [])
+
+-- ---- lists the other way round
+
+-- a map goes through what is put in front, the last first
+map-reverseAux {ℓ} : {A B : Type ℓ} (f : A → B) (xs ys : List A) → map f (reverseAux xs ys) ≡ reverseAux (map f xs) (map f ys)
+map-reverseAux f [] ys = refl
+map-reverseAux f (x ∷ xs) ys = map-reverseAux f xs (x ∷ ys)
+
+-- a map goes through the list the other way round
+pub map-reverse {ℓ} : {A B : Type ℓ} (f : A → B) (xs : List A) → map f (reverse xs) ≡ reverse (map f xs)
+map-reverse f xs = map-reverseAux f xs []
+
+-- the numbers below n, descending, are those ascending the other way round
+pub belowDown-reverse : (n : ℕ) → belowDown n ≡ reverse (below n)
+unfolding belowDown below numbersFrom
+belowDown-reverse zero = refl
+belowDown-reverse (suc n) = ap {B = List ℕ} (λ ns. n ∷ ns) (belowDown-reverse n) ∙ sym (ap reverse (below-snoc n) ∙ reverse-append (below n) (n ∷ []))
