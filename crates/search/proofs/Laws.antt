@@ -1,4 +1,8 @@
 pub mod Cases
 pub mod Demand3
+pub mod Ends
 pub mod EntryPoints
 pub mod Explanations
+pub mod Order
+pub mod Search
+pub mod Store

@@ -9,6 +9,7 @@ use Rattle.board.specs.Holds.{derives}
 use Rattle.sets.proofs.Laws.Sets.{subset-at}
 use Rattle.board.proofs.Promise.{derives-mono}
 use Rattle.search.specs.Explanations.{isChoice, isExplanation}
+pub mod Choices
 pub mod Minimal
 
 -- whoever chooses more, and still at most one per declaration, explains what it explained

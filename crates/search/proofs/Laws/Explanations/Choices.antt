@@ -1,0 +1,96 @@
+-- Laws of sets with at most one choice per declaration: what `isChoice` says, part by part, that a board state is such a set, and that two sets
+-- inside such a set are compatible. Assumes nothing.
+use Prim.Native.Nat.{ℕ, _≤_}
+use native.Mathlib.Omega.{arith}
+use mathlib.Core.Path.{_≡_, refl}
+use mathlib.Core.Bool.{_&&_}
+use mathlib.Core.List.{List, [], _∷_, List·Memᴰ, List·Memᴰ·head}
+use mathlib.Core.Logic.{⊎-elim}
+use lib.Dec.{T, leb, leb→le, eqb→eq}
+use lib.ListN.{length}
+use Rattle.sets.specs.Lists.{all}
+use Rattle.sets.specs.Sets.{mostAtoms, member, with, setOf, subset, allBelow, members}
+use Rattle.sets.proofs.Laws.Lists.{all-at, all-of, among-at, sameNumbers-refl}
+use Rattle.sets.proofs.Laws.Sets.{member-setOf, with-cases, subset-at}
+use Rattle.sets.proofs.Laws.Sets.Bounds.{allBelow-up, allBelow-with, allBelow-setOf}
+use Rattle.sets.proofs.Laws.Sets.Members.{members-at, members-of}
+use Rattle.sets.proofs.Laws.Tests.{and-both, and-left, and-right}
+use Rattle.board.specs.Board.{Board, Hypothesis, declaration, declarations, isHypothesis, chosenOf, boardStates}
+use Rattle.board.specs.Holds.{atomsOf}
+use Rattle.board.proofs.Promise.{Accepted, isHypothesis-find, isHypothesis-of, chosenOf-at, chosen-equal, AtMostOne, AtMostOne-with, AtMostOne-inside, AtMostOne-state, state-hypothesis}
+use Rattle.search.specs.Explanations.{isChoice, agree, compatible}
+
+module _ (b : Board) (D : ℕ) where
+  -- its atoms are the board's
+  pub choice-below : T (isChoice b D) → T (allBelow (b .atoms) D)
+  unfolding isChoice
+  choice-below c = and-left (allBelow (b .atoms) D) (all (isHypothesis b) (members D))
+      (and-left (allBelow (b .atoms) D && all (isHypothesis b) (members D)) (all (λ d. leb (length (chosenOf D d)) 1) (declarations b)) c)
+
+  -- at most one per declaration
+  pub choice-one : T (isChoice b D) → AtMostOne D (declarations b)
+  unfolding isChoice
+  choice-one c = and-right (allBelow (b .atoms) D && all (isHypothesis b) (members D)) (all (λ d. leb (length (chosenOf D d)) 1) (declarations b)) c
+
+  module _ (k : Accepted b) where
+    -- its atoms are below the most that any board has
+    pub choice-room : T (isChoice b D) → T (allBelow mostAtoms D)
+    choice-room c = allBelow-up (b .atoms) mostAtoms D (k .atomsRoom) (choice-below c)
+
+    -- its atoms are hypotheses
+    pub choice-hypothesis : T (isChoice b D) → (a : ℕ) → T (member a D) → T (isHypothesis b a)
+    unfolding isChoice
+    choice-hypothesis c a m = all-at (isHypothesis b) (and-right (allBelow (b .atoms) D) (all (isHypothesis b) (members D))
+        (and-left (allBelow (b .atoms) D && all (isHypothesis b) (members D)) (all (λ d. leb (length (chosenOf D d)) 1) (declarations b)) c))
+        (members-of D (choice-room c) m)
+
+  -- hypotheses of the board, at most one per declaration, are a choice
+  pub choice-of : T (allBelow (b .atoms) D) → ((a : ℕ) → T (member a D) → T (isHypothesis b a)) → AtMostOne D (declarations b) → T (isChoice b D)
+  unfolding isChoice
+  choice-of below own one =
+      and-both (allBelow (b .atoms) D && all (isHypothesis b) (members D)) (all (λ d. leb (length (chosenOf D d)) 1) (declarations b))
+      (and-both (allBelow (b .atoms) D) (all (isHypothesis b) (members D)) below (all-of (isHypothesis b) (members D) (λ a m. own a (members-at D m)))) one
+
+-- a hypothesis of a declaration that a choice does not touch may join it
+pub choice-with : (b : Board) → Accepted b → (D : ℕ) → T (isChoice b D) → {h : Hypothesis} → List·Memᴰ h (b .hypotheses)
+    → chosenOf D (declaration (b .hypotheses) (h .declaration)) ≡ [] → T (isChoice b (with (h .atom) D))
+choice-with b k D c {h} m untouched = choice-of b (with (h .atom) D)
+    (allBelow-with (b .atoms) (h .atom) D (k .hypothesis h m .atomBelow) (choice-below b D c))
+    (λ a t. ⊎-elim (choice-hypothesis b D k c a) (λ e. rw (eqb→eq (h .atom) a e) at (isHypothesis-of b m)) (with-cases a (h .atom) D t))
+    (AtMostOne-with b k D h m untouched (choice-one b D c))
+
+-- ---- board states
+
+-- a board state is a set of hypotheses, at most one per declaration
+pub state-choice : (b : Board) → Accepted b → {s : List Hypothesis} → List·Memᴰ s (boardStates b) → T (isChoice b (setOf (atomsOf s)))
+state-choice b k {s} m = choice-of b (setOf (atomsOf s))
+    (allBelow-setOf (b .atoms) (atomsOf s) (λ a n. let (h, i, e) = isHypothesis-find b a (state-hypothesis b m a n) in rw e at (k .hypothesis h i .atomBelow)))
+    (λ a t. state-hypothesis b m a (among-at (atomsOf s) a (rw (member-setOf a (atomsOf s)) at t)))
+    (AtMostOne-state b m k)
+
+-- ---- compatible sets
+
+-- one choice each at most, and the same one, is no different choice
+agree-short : (xs ys : List Hypothesis) → length xs ≤ 1 → length ys ≤ 1
+    → ((g h : Hypothesis) → List·Memᴰ g xs → List·Memᴰ h ys → g ≡ h) → T (agree xs ys)
+unfolding agree
+agree-short [] ys l k f = tt
+agree-short (x ∷ xs) [] l k f = tt
+agree-short (x ∷ []) (y ∷ []) l k f = rw (f x y (List·Memᴰ·head refl) (List·Memᴰ·head refl)) (sameNumbers-refl (atomsOf (y ∷ [])))
+agree-short (x ∷ []) (y ∷ z ∷ ys) l k f = absurd (omega arith)
+agree-short (x ∷ w ∷ xs) (y ∷ ys) l k f = absurd (omega arith)
+
+-- two sets inside one with at most one choice per declaration are compatible
+pub compatible-inside : (b : Board) (D E S : ℕ) → T (subset D S) → T (subset E S) → T (isChoice b S) → T (compatible b D E)
+unfolding compatible
+compatible-inside b D E S inD inE choice =
+    all-of (λ d. agree (chosenOf D d) (chosenOf E d)) (declarations b) (λ d m.
+    agree-short (chosenOf D d) (chosenOf E d) (short D inD d m) (short E inE d m) (λ g h i j.
+    let (gd, gD) = chosenOf-at D d i in
+    let (hd, hE) = chosenOf-at E d j in
+    chosen-equal b S (choice-one b S choice) m gd hd (subset-at D S (g .atom) inD gD) (subset-at E S (h .atom) inE hE)))
+  where
+    short : (F : ℕ) → T (subset F S) → (d : List Hypothesis) → List·Memᴰ d (declarations b) → length (chosenOf F d) ≤ 1
+    short F inF d m =
+        leb→le (length (chosenOf F d)) 1
+        (all-at (λ d. leb (length (chosenOf F d)) 1) (AtMostOne-inside b F S (λ h n. subset-at F S (h .atom) inF) (choice-one b S choice)) m)
