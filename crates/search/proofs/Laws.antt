@@ -1,5 +1,4 @@
 pub mod Cases
-pub mod Demand3
 pub mod Ends
 pub mod EntryPoints
 pub mod Explanations

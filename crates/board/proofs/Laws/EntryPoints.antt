@@ -1,5 +1,5 @@
 -- What loading hands back, from what the loader's parts say; and the yes-or-no on a table that some file loads to. Assumes nothing.
-use mathlib.Core.Path.{_≡_, sym, ap, _∙_}
+use mathlib.Core.Path.{_≡_, refl, sym, ap, _∙_}
 use Prim.Native.Nat.{ℕ, _<_}
 use native.Mathlib.Omega.{arith}
 use mathlib.Core.Bool.{Bool, false, _&&_, _||_}
@@ -12,6 +12,7 @@ use Rattle.sets.proofs.Laws.Tests.{true-of-T}
 use Rattle.board.specs.Answers.{FileAnswer, accepted, refusedAt, Answer, granted, refused}
 use Rattle.board.specs.Board.{Board, declarations, isStateOf}
 use Rattle.board.specs.Holds.{ruleHolds, holds, inState}
+use Rattle.board.specs.Load.{load}
 use Rattle.board.specs.Table.{tableIn, tableOf, boardOf, isTable}
 use Rattle.board.specs.EntryPoints.{outcomeOf, loadedMeans, LoadsAs, yesOrNo}
 use Rattle.board.proofs.Laws.Accepted.{accepted-bodies-below}
@@ -20,6 +21,11 @@ use Rattle.board.proofs.Laws.Table.{isTable-board}
 use Rattle.board.specs.declared.Table.{Table}
 use Rattle.board.specs.declared.Loading.{Loading}
 use Rattle.board.specs.declared.Loaded.the-variants.{Accepted}
+
+-- the table that loading a file hands back is that of the board it was accepted with
+pub tableIn-accepted : (file : List ℕ) (b : Board) → load file ≡ accepted b → tableIn (load file) ≡ tableOf b
+unfolding tableIn
+tableIn-accepted file b e = rw e
 
 -- a refusal of the right number and place
 pub refuses-loads : (answer : FileAnswer Board) (r : Loading) (number place : ℕ) → answer ≡ refusedAt number place → LoadsAs (refusedAt number place) r → LoadsAs answer r

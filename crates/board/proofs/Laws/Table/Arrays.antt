@@ -79,6 +79,11 @@ module _ {b : Board} (k : Accepted b) where
       ap filled (placesIn-tableOf i l) ∙ filled-placesOf (b .atoms) (k .atomsRoom) (getD (b .rules) i noRule) (rule-atoms-below (k .rule _ (at-index (b .rules) i noRule l))) in
       λ j. record { head = h j; body = body j })
 
+-- the atoms of a table's board are as many as the table says
+pub boardOf-atoms : (t : Table) → boardOf t .atoms ≡ t .atoms
+unfolding boardOf
+boardOf-atoms t = refl
+
 -- the table of an accepted board has that board
 pub boardOf-tableOf : {b : Board} → Accepted b → boardOf (tableOf b) ≡ b
 unfolding boardOf tableOf

@@ -11,13 +11,13 @@ use lib.ListN.{length}
 use Rattle.sets.specs.Lists.{all}
 use Rattle.sets.specs.Sets.{mostAtoms, member, with, setOf, subset, allBelow, members}
 use Rattle.sets.proofs.Laws.Lists.{all-at, all-of, among-at, sameNumbers-refl}
-use Rattle.sets.proofs.Laws.Sets.{member-setOf, with-cases, subset-at}
-use Rattle.sets.proofs.Laws.Sets.Bounds.{allBelow-up, allBelow-with, allBelow-setOf}
+use Rattle.sets.proofs.Laws.Sets.{member-empty, member-setOf, with-cases, subset-at}
+use Rattle.sets.proofs.Laws.Sets.Bounds.{allBelow-empty, allBelow-up, allBelow-with, allBelow-setOf}
 use Rattle.sets.proofs.Laws.Sets.Members.{members-at, members-of}
 use Rattle.sets.proofs.Laws.Tests.{and-both, and-left, and-right}
 use Rattle.board.specs.Board.{Board, Hypothesis, declaration, declarations, isHypothesis, chosenOf, boardStates}
 use Rattle.board.specs.Holds.{atomsOf}
-use Rattle.board.proofs.Promise.{Accepted, isHypothesis-find, isHypothesis-of, chosenOf-at, chosen-equal, AtMostOne, AtMostOne-with, AtMostOne-inside, AtMostOne-state, state-hypothesis}
+use Rattle.board.proofs.Promise.{Accepted, isHypothesis-find, isHypothesis-of, chosenOf-at, chosen-equal, AtMostOne, AtMostOne-empty, AtMostOne-with, AtMostOne-inside, AtMostOne-state, state-hypothesis}
 use Rattle.search.specs.Explanations.{isChoice, agree, compatible}
 
 module _ (b : Board) (D : ℕ) where
@@ -50,6 +50,10 @@ module _ (b : Board) (D : ℕ) where
   choice-of below own one =
       and-both (allBelow (b .atoms) D && all (isHypothesis b) (members D)) (all (λ d. leb (length (chosenOf D d)) 1) (declarations b))
       (and-both (allBelow (b .atoms) D) (all (isHypothesis b) (members D)) below (all-of (isHypothesis b) (members D) (λ a m. own a (members-at D m)))) one
+
+-- nothing chosen is a choice
+pub choice-empty : (b : Board) → T (isChoice b 0)
+choice-empty b = choice-of b 0 (allBelow-empty (b .atoms)) (λ a m. absurd (rw (member-empty a) at m)) (AtMostOne-empty (declarations b))
 
 -- a hypothesis of a declaration that a choice does not touch may join it
 pub choice-with : (b : Board) → Accepted b → (D : ℕ) → T (isChoice b D) → {h : Hypothesis} → List·Memᴰ h (b .hypotheses)

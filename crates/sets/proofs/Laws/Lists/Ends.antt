@@ -1,12 +1,13 @@
 -- Laws of lists that are put together: what `all`, `any`, `keep`, `sum`, `product` and `below` make of two lists in a row, or of one element more
 -- at the end; and of lists the other way round. Assumes nothing.
-use mathlib.Core.Path.{_≡_, refl, sym, ap, _∙_}
+use mathlib.Core.Path.{_≡_, refl, sym, ap, _∙_, subst}
 use Prim.Native.Nat.{ℕ, zero, suc, _+_, _*_}
 use native.Mathlib.Nat.{mul-assoc, one-mul, mul-one, zero-add, add-zero, suc-add}
 use native.Mathlib.Numerals.{add-one}
 use native.Mathlib.Omega.{arith}
 use mathlib.Core.Bool.{Bool, true, false, _&&_, _||_, cond, and-assoc, or-assoc, or-false}
-use mathlib.Core.List.{List, [], _∷_, _++_, map, map-append, append-nil, reverse, reverseAux, reverse-append}
+use mathlib.Core.List.{List, [], _∷_, _++_, map, map-append, append-nil, reverse, reverseAux, reverse-append, List·Memᴰ, List·Memᴰ·eq-of-singleton, List·Memᴰ·append-cases}
+use mathlib.Core.Logic.{⊎-elim}
 use Rattle.sets.specs.Lists.{any, all, keep, sum, product, numbersFrom, below, belowDown}
 
 module _ {ℓ} {A : Type ℓ} where
@@ -47,6 +48,15 @@ module _ {ℓ} {A : Type ℓ} where
   pub keep-snoc-false : (p : A → Bool) (xs : List A) (x : A) → p x ≡ false → keep p (xs ++ (x ∷ [])) ≡ keep p xs
   unfolding keep
   keep-snoc-false p xs x e = keep-append p xs (x ∷ []) ∙ rw e (append-nil (keep p xs))
+
+-- what holds of one element holds of each of the list of it alone
+pub each-one {ℓ ℓ′} : {A : Type ℓ} (P : A → Type ℓ′) {x : A} → P x → (y : A) → List·Memᴰ y (x ∷ []) → P y
+each-one P p y m = subst P (sym (List·Memᴰ·eq-of-singleton m)) p
+
+-- what holds of each and of one more holds of each with that one at the end
+pub each-snoc {ℓ ℓ′} : {A : Type ℓ} (P : A → Type ℓ′) (xs : List A) {x : A} → ((y : A) → List·Memᴰ y xs → P y) → P x
+    → (y : A) → List·Memᴰ y (xs ++ (x ∷ [])) → P y
+each-snoc P xs all p y m = ⊎-elim (all y) (each-one P p y) (List·Memᴰ·append-cases xs m)
 
 -- the sum of two lists in a row
 pub sum-append : (xs ys : List ℕ) → sum (xs ++ ys) ≡ sum xs + sum ys

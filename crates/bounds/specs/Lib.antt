@@ -1,0 +1,3 @@
+-- What `bounds` means: read Demand3; Cases last.
+pub mod Demand3
+pub mod Cases
