@@ -138,6 +138,7 @@ comparison-numbers =
 
 -- ---- the dictionary order
 
+-- turned round
 dictionary-turns : (xs ys : List ℕ) → dictionary ys xs ≡ turned (dictionary xs ys)
 unfolding dictionary turned
 dictionary-turns [] [] = refl
@@ -146,6 +147,7 @@ dictionary-turns (x ∷ xs) [] = refl
 dictionary-turns (x ∷ xs) (y ∷ ys) =
     ap₂ andThen (compare-turns x y) (dictionary-turns xs ys) ∙ sym (turned-then (compare x y) (dictionary xs ys))
 
+-- transitive
 dictionary-goes : (xs ys zs : List ℕ) → dictionary xs ys ≡ Ordering·lt → dictionary ys zs ≡ Ordering·lt → dictionary xs zs ≡ Ordering·lt
 unfolding dictionary
 dictionary-goes [] [] zs e f = f
