@@ -6,7 +6,7 @@ use mathlib.Core.List.{List, [], _∷_}
 use lib.ListN.{length}
 use lib.Bits.{bitOr}
 use lib.Dec.{eqb, ltb}
-use Rattle.sets.specs.Lists.{keep, below}
+use Rattle.sets.specs.Lists.{any, keep, below}
 
 -- "1 to 128 atoms, numbered from 0": no set here has an atom past these
 abbrev pub mostAtoms : ℕ
@@ -48,6 +48,10 @@ members s = keep (λ a. member a s) (below mostAtoms)
 -- how many atoms s has
 unfoldable pub size : ℕ → ℕ
 size s = length (members s)
+
+-- some atom of s is in t
+unfoldable pub meets : ℕ → ℕ → Bool
+meets s t = any (λ a. member a t) (members s)
 
 -- the highest atom of s that is below n; 0 where there is none
 unfoldable pub highestBelow : ℕ → ℕ → ℕ

@@ -1,8 +1,8 @@
 // Sets of atoms 0 to 127 in two words, by value. Every function takes every set and every atom; an atom past 127 is in no set. Each
 // takes a handful of basic steps, none of them a loop.
 ghost use mathlib.Core.Path.{_≡_};
-ghost use lib.Dec.{eqb};
-ghost use Rattle.sets.specs.Sets.{member, union, without, subset, highest, size};
+ghost use lib.Dec.{eqb, ltb};
+ghost use Rattle.sets.specs.Sets.{member, union, without, subset, meets, highest, size};
 ghost use Rattle.sets.specs.Masks.{maskMeans, withAtom};
 ghost use Rattle.sets.specs.Dictionary.{lowestFirst};
 
@@ -87,11 +87,11 @@ pub fn union(s: Mask, t: Mask) -> Mask
     }
 }
 
-// Whether every atom of `s` is in `t`.
+// Whether every atom of `s` is in `t`: no digit of `s` is left beside those of `t`. Without a branch, so that a loop over sets becomes vector code.
 pub fn subset(s: Mask, t: Mask) -> bool
     ensures { λ r. ⌜ r ≡ subset (maskMeans s) (maskMeans t) ⌝ }
 {
-    (s.low | t.low) == t.low && (s.high | t.high) == t.high
+    (((s.low | t.low) ^ t.low) | ((s.high | t.high) ^ t.high)) == 0
 }
 
 // Whether the two sets have the same atoms.
@@ -99,6 +99,23 @@ pub fn equal(s: Mask, t: Mask) -> bool
     ensures { λ r. ⌜ r ≡ eqb (maskMeans s) (maskMeans t) ⌝ }
 {
     s.low == t.low && s.high == t.high
+}
+
+// Whether some atom of `s` is in `t`.
+pub fn meets(s: Mask, t: Mask) -> bool
+    ensures { λ r. ⌜ r ≡ meets (maskMeans s) (maskMeans t) ⌝ }
+{
+    (s.low & t.low) != 0 || (s.high & t.high) != 0
+}
+
+// Whether `s` is less than `t`, each as a number, the sum of 2^atom.
+pub fn less(s: Mask, t: Mask) -> bool
+    ensures { λ r. ⌜ r ≡ ltb (maskMeans s) (maskMeans t) ⌝ }
+{
+    if s.high == t.high {
+        return s.low < t.low;
+    }
+    s.high < t.high
 }
 
 // The highest atom of the set; 0 where the set is empty.

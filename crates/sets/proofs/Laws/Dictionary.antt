@@ -8,9 +8,9 @@ use mathlib.Core.Bool.{Bool, true, false, not, xor, cond}
 use mathlib.Core.List.{List, [], _∷_, _++_, List·Memᴰ, List·Memᴰ·head}
 use lib.Bits.{bitXor, xor-comm, xor-lt}
 use lib.Count.{trailingZeros}
-use lib.Dec.{eqb}
+use lib.Dec.{eqb, ltb}
 use lib.ListN.{length}
-use borrow.Author.Tests.{eqb-true, eqb-false}
+use borrow.Author.Tests.{eqb-true, eqb-false, ltb-true, ltb-false}
 use Rattle.sets.specs.Lists.{keep, numbersFrom, below}
 use Rattle.sets.specs.Sets.{mostAtoms, member, members, size}
 use Rattle.sets.specs.Dictionary.{andThen, isLess, dictionary, differ, firstIn, lowestFirst}
@@ -46,6 +46,25 @@ compare-eq zero (suc n) e = absurd (let z : _≡_ {A = ℕ} 0 1 = cc (compare·z
 compare-eq (suc m) zero e = absurd (let z : _≡_ {A = ℕ} 0 1 = cc (compare·suc-zero m) in omega arith)
 compare-eq (suc m) (suc n) e = ap suc (compare-eq m n (sym (compare·suc-suc m n) ∙ e))
 
+-- whether the comparison says less is whether the number is less
+pub compare-ltb : (m n : ℕ) → isLess (compare m n) ≡ ltb m n
+unfolding isLess
+compare-ltb m n = go (ltb m n) refl (eqb m n) refl
+  where
+    go : (b : Bool) → ltb m n ≡ b → (d : Bool) → eqb m n ≡ d → isLess (compare m n) ≡ b
+    go true e d q = rw (compare-less m n (ltb-true m n e))
+    go false e true q = rw (eqb-true m n q, compare-same n)
+    go false e false q = let other : m ≡ n → ⊥ = eqb-false m n q in rw (compare-more m n (omega (arith, ltb-false m n e)))
+
+-- .. and where the numbers differ, what would be compared next does not matter
+pub compare-then : (m n : ℕ) (next : Ordering) → (m ≡ n → ⊥) → isLess (andThen (compare m n) next) ≡ ltb m n
+unfolding isLess andThen
+compare-then m n next other = go (ltb m n) refl
+  where
+    go : (b : Bool) → ltb m n ≡ b → isLess (andThen (compare m n) next) ≡ b
+    go true e = rw (compare-less m n (ltb-true m n e))
+    go false e = rw (compare-more m n (omega (arith, ltb-false m n e)))
+
 -- ---- lists that the dictionary order calls equal
 
 -- a list with itself
@@ -66,6 +85,16 @@ dictionary-eq (x ∷ xs) (y ∷ ys) e = go (compare x y) refl (dictionary-eq xs 
     go Ordering·lt q rest e = absurd (let z : _≡_ {A = ℕ} 0 1 = cc in omega arith)
     go Ordering·eq q rest e = ap₂ {C = List ℕ} (λ z zs. z ∷ zs) (compare-eq x y q) (rest e)
     go Ordering·gt q rest e = absurd (let z : _≡_ {A = ℕ} 0 1 = cc in omega arith)
+
+-- where lists differ, what would be compared next does not matter
+pub dictionary-then : (xs ys : List ℕ) (next : Ordering) → (xs ≡ ys → ⊥) → isLess (andThen (dictionary xs ys) next) ≡ isLess (dictionary xs ys)
+unfolding isLess andThen
+dictionary-then xs ys next other = go (dictionary xs ys) refl
+  where
+    go : (o : Ordering) → dictionary xs ys ≡ o → isLess (andThen o next) ≡ isLess o
+    go Ordering·lt e = refl
+    go Ordering·eq e = absurd (other (dictionary-eq xs ys e))
+    go Ordering·gt e = refl
 
 -- ---- a list and a longer one that it begins
 

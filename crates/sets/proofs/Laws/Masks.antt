@@ -5,18 +5,20 @@ use Prim.Native.Nat.{ℕ, _+_, _-_, _*_, _^_, _≤_, _<_, _/_, _%_}
 use native.Mathlib.Nat.{one-mul, mod-eq-of-lt}
 use native.Mathlib.Omega.{arith}
 use mathlib.Core.Path.{_≡_, refl, sym, ap, _∙_}
-use mathlib.Core.Bool.{Bool, true, false, _&&_, cond}
+use mathlib.Core.Bool.{Bool, true, false, not, _&&_, cond}
 use lib.Arith.{digits-lt}
-use lib.Bits.{bitOr, bitAnd, or-block, or-lt, or-zero-r, and-mask}
-use lib.Dec.{T, eqb, lt→ltb}
+use lib.Bits.{bitOr, bitAnd, bitXor, or-block, or-lt, or-zero-r, and-block, and-mask, and-le-l, and-le-r, xor-add-and, xor-self}
+use lib.Dec.{T, eqb, eqb→eq, eqb-refl, ltb, lt→ltb}
 use lib.Pow.{pow-lt, pow-add, pow-pos}
-use borrow.Author.Tests.{lt-ltb, le-ltb}
+use borrow.Author.Tests.{lt-ltb, le-ltb, eqb-true, eqb-false}
 use Rattle.sets.specs.Masks.{maskMeans, withAtom}
-use Rattle.sets.specs.Sets.{mostAtoms, member, union, with, without, subset, allBelow, words}
+use Rattle.sets.specs.Sets.{mostAtoms, member, union, with, without, subset, meets, allBelow, words}
 use Rattle.sets.specs.declared.mask.Mask.{Mask}
 use Rattle.sets.proofs.Laws.Sets.Bounds.{without-member}
 use Rattle.sets.proofs.Laws.Sets.Digits.{member-and, member-low, member-high, member-full, member-power, member-without, set-ext, allBelow-at}
-use Rattle.sets.proofs.Laws.Tests.{T-of-true, true-of-T, false-of-T, eqb-ext, and-cong-right}
+use Rattle.sets.proofs.Laws.Sets.Meets.{meets-and}
+use Rattle.sets.proofs.Laws.Lists.Padding.{or-zero}
+use Rattle.sets.proofs.Laws.Tests.{T-ext, T-of-true, true-of-T, false-of-T, eqb-ext, ltb-ext, and-cong-right}
 
 -- ---- what a mask means
 
@@ -111,6 +113,20 @@ module _ (low high low′ high′ : ℕ) (l : low < 2 ^ 64) (l′ : low′ < 2 ^
   pub eqb-low-word : (low ≡ low′ → ⊥) → eqb low low′ ≡ eqb (words low high) (words low′ high′)
   eqb-low-word other = eqb-ext low low′ (words low high) (words low′ high′) (λ e. absurd (other e)) (λ e. omega arith)
 
+-- ---- the order of sets as numbers
+
+module _ (low high low′ high′ : ℕ) (l : low < 2 ^ 64) (l′ : low′ < 2 ^ 64) where
+  -- where the high words are the same, the low words decide
+  pub ltb-low-word : high ≡ high′ → ltb low low′ ≡ ltb (words low high) (words low′ high′)
+  ltb-low-word same = ltb-ext low low′ (words low high) (words low′ high′) (λ h. omega arith) (λ h. omega arith)
+
+  -- where they are not, the high words do
+  pub ltb-high-word : (high ≡ high′ → ⊥) → ltb high high′ ≡ ltb (words low high) (words low′ high′)
+  ltb-high-word other = ltb-ext high high′ (words low high) (words low′ high′) (λ h. omega arith) above
+    where
+      above : words low high < words low′ high′ → high < high′
+      above h = omega arith
+
 -- ---- a union
 
 -- word by word
@@ -138,6 +154,18 @@ pub member-past : (m : Mask) → m .low < 2 ^ 64 → m .high < 2 ^ 64 → (a : �
 member-past m low high a h =
     false-of-T (member a (maskMeans m)) (λ t. let l : a < 128 = allBelow-at mostAtoms (maskMeans m) a (maskMeans-below m low high) t in omega arith)
 
+-- numbers with no digit in which they differ are equal
+xor-zero : (a b : ℕ) → eqb (bitXor a b) 0 ≡ eqb a b
+xor-zero a b =
+    T-ext (eqb (bitXor a b) 0) (eqb a b)
+    (λ t. let none : bitXor a b ≡ 0 = eqb→eq (bitXor a b) 0 t in
+    let same : a ≡ b = omega (arith, xor-add-and a b, and-le-l a b, and-le-r a b) in rw same (eqb-refl b))
+    (λ t. rw (eqb→eq a b t, xor-self) tt)
+
+-- the two may change places
+eqb-comm : (a b : ℕ) → eqb a b ≡ eqb b a
+eqb-comm a b = T-ext (eqb a b) (eqb b a) (λ t. rw (eqb→eq a b t) (eqb-refl b)) (λ t. rw (eqb→eq b a t) (eqb-refl a))
+
 module _ (s t : Mask) (low : s .low < 2 ^ 64) (low′ : t .low < 2 ^ 64) where
   both : bitOr (s .low) (t .low) < 2 ^ 64
   both = or-lt 64 (s .low) (t .low) low low′
@@ -153,6 +181,43 @@ module _ (s t : Mask) (low : s .low < 2 ^ 64) (low′ : t .low < 2 ^ 64) where
   unfolding subset maskMeans
   subset-low-word other =
       rw (← union-words (s .low) (s .high) (t .low) (t .high) low low′) (eqb-low-word _ _ (t .low) (t .high) both low′ other)
+
+  -- no digit of s is left beside those of t, in either word
+  pub subset-words : eqb (bitOr (bitXor (bitOr (s .low) (t .low)) (t .low)) (bitXor (bitOr (s .high) (t .high)) (t .high))) 0 ≡ subset (maskMeans s) (maskMeans t)
+  subset-words =
+      or-zero (bitXor (bitOr (s .low) (t .low)) (t .low)) (bitXor (bitOr (s .high) (t .high)) (t .high))
+      ∙ (λ i. xor-zero (bitOr (s .low) (t .low)) (t .low) i && (eqb-comm 0 (bitXor (bitOr (s .high) (t .high)) (t .high)) ∙ xor-zero (bitOr (s .high) (t .high)) (t .high)) i)
+      ∙ go (eqb (bitOr (s .low) (t .low)) (t .low)) refl
+    where
+      go : (p : Bool) → eqb (bitOr (s .low) (t .low)) (t .low) ≡ p → (p && eqb (bitOr (s .high) (t .high)) (t .high)) ≡ subset (maskMeans s) (maskMeans t)
+      go true q = subset-high-word (eqb-true _ _ q)
+      go false q = sym q ∙ subset-low-word (eqb-false _ _ q)
+
+-- ---- sets that meet
+
+module _ (s t : Mask) (low : s .low < 2 ^ 64) (high : s .high < 2 ^ 64) (low′ : t .low < 2 ^ 64) where
+  -- they meet exactly if the digits shared by the words are not all 0
+  meets-words : meets (maskMeans s) (maskMeans t) ≡ not (eqb (words (bitAnd (s .low) (t .low)) (bitAnd (s .high) (t .high))) 0)
+  unfolding maskMeans
+  meets-words =
+      meets-and (maskMeans s) (maskMeans t) (maskMeans-below s low high)
+      ∙ ap (λ (x : ℕ). not (eqb x 0)) (and-block 64 (s .high) (t .high) (s .low) (t .low) low low′)
+
+  -- where the low words share a digit, they meet
+  pub meets-low-word : (bitAnd (s .low) (t .low) ≡ 0 → ⊥) → not (eqb (bitAnd (s .low) (t .low)) 0) ≡ meets (maskMeans s) (maskMeans t)
+  meets-low-word some =
+      let low″ = bitAnd (s .low) (t .low) in
+      let high″ = bitAnd (s .high) (t .high) in
+      rw meets-words (ap not (eqb-ext low″ 0 (words low″ high″) 0 (λ e. absurd (some e)) (λ e. omega arith)))
+
+  -- where they share none, the high words decide
+  pub meets-high-word : bitAnd (s .low) (t .low) ≡ 0 → not (eqb (bitAnd (s .high) (t .high)) 0) ≡ meets (maskMeans s) (maskMeans t)
+  meets-high-word none =
+      let low″ = bitAnd (s .low) (t .low) in
+      let high″ = bitAnd (s .high) (t .high) in
+      rw meets-words (ap not (eqb-ext high″ 0 (words low″ high″) 0 (λ e. omega arith) (λ e. omega arith)))
+
+-- ---- an atom more, and an atom less
 
 module _ (m : Mask) (low : m .low < 2 ^ 64) (a : ℕ) where
   -- an atom more, in the low word

@@ -5,6 +5,7 @@ pub mod Bounds
 pub mod Counts
 pub mod Digits
 pub mod Highest
+pub mod Meets
 pub mod Members
 use Prim.Native.Nat.{ℕ, _^_}
 use mathlib.Core.Path.{_≡_, refl, sym, ap, _∙_, subst}

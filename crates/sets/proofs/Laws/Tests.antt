@@ -1,9 +1,9 @@
 -- Laws of tests: what it is for a test to pass, of the tests' `&&` and `||`, and of `eqb`. `T b` says that b passes. Assumes nothing.
 use mathlib.Core.Path.{_≡_, refl, sym, ap, _∙_, subst}
-use Prim.Native.Nat.{ℕ}
+use Prim.Native.Nat.{ℕ, _<_}
 use mathlib.Core.Bool.{Bool, true, false, _&&_, _||_, true≢false}
 use mathlib.Core.Logic.{_⊎_, inl, inr}
-use lib.Dec.{T, eqb, eqb→eq}
+use lib.Dec.{T, eqb, eqb→eq, ltb, ltb→lt, lt→ltb}
 use borrow.Author.Tests.{eq-eqb}
 
 -- ---- one test
@@ -30,6 +30,10 @@ T-ext false b f g = sym (false-of-T b g)
 -- tests for equality of numbers that are equal together are the same
 pub eqb-ext : (a b c d : ℕ) → (a ≡ b → c ≡ d) → (c ≡ d → a ≡ b) → eqb a b ≡ eqb c d
 eqb-ext a b c d f g = T-ext (eqb a b) (eqb c d) (λ h. T-of-true (eq-eqb c d (f (eqb→eq a b h)))) (λ h. T-of-true (eq-eqb a b (g (eqb→eq c d h))))
+
+-- tests for order of numbers that are so ordered together are the same
+pub ltb-ext : (a b c d : ℕ) → (a < b → c < d) → (c < d → a < b) → ltb a b ≡ ltb c d
+ltb-ext a b c d f g = T-ext (ltb a b) (ltb c d) (λ h. lt→ltb c d (f (ltb→lt a b h))) (λ h. lt→ltb a b (g (ltb→lt c d h)))
 
 -- ---- tests that all pass
 

@@ -116,3 +116,15 @@ module _ {ℓ} {A : Type ℓ} where
   map-getD-take d xs k h =
       let e : length (take k xs) ≡ k = length-take-le k xs h in
       rw e at (map-below-by-index (λ i. getD xs i d) d (take k xs) (λ i l. sym (getD-take k xs i d (omega arith))))
+
+  -- of the numbers from a on, what a function gives stands where they do
+  from-at : (f : ℕ → A) (d : A) (a n i : ℕ) → i < n → getD (map f (numbersFrom a n)) i d ≡ f (a + i)
+  unfolding numbersFrom
+  from-at f d a zero i l = absurd (not-suc-le-zero l)
+  from-at f d a (suc n) zero l = ap f (sym (add-zero a))
+  from-at f d a (suc n) (suc i) l = from-at f d (suc a) n i (omega arith) ∙ ap f (suc-add a i ∙ sym (add-suc a i))
+
+  -- .. and of those below n
+  pub getD-map-below : (f : ℕ → A) (d : A) (n i : ℕ) → i < n → getD (map f (below n)) i d ≡ f i
+  unfolding below
+  getD-map-below f d n i l = from-at f d 0 n i l ∙ ap f (omega arith)

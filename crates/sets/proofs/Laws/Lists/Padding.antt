@@ -108,7 +108,7 @@ drop-pad-same n k a xs e = rw (drop-at xs (replicate (n - length xs) a) k e) (al
 -- ---- zero from an index on
 
 -- joined digits are 0 exactly if both are
-or-zero : (a b : ℕ) → eqb (bitOr a b) 0 ≡ (eqb a 0 && eqb 0 b)
+pub or-zero : (a b : ℕ) → eqb (bitOr a b) 0 ≡ (eqb a 0 && eqb 0 b)
 or-zero a b =
     T-ext (eqb (bitOr a b) 0) (eqb a 0 && eqb 0 b)
     (λ t.
