@@ -7,7 +7,8 @@ pub mod facts;
 pub mod walks;
 mod weights;
 
-// A board: the hypotheses and the rules in the order of the file, one array a field. Room past a count is zero.
+// A board: the hypotheses and the rules in the order of the file, one array a field. Room past a count is zero. Laid out as in C, for `firmware`.
+#[repr(C)]
 pub struct Table {
     pub atoms: usize,
     pub hypotheses: usize,

@@ -13,7 +13,7 @@ use Rattle.board.specs.Answers.{FileAnswer, accepted, refusedAt, Answer,
 use Rattle.board.specs.Board.{Board, declarations, isStateOf}
 use Rattle.board.specs.Holds.{ruleHolds, holds, inState}
 use Rattle.board.specs.Load.{load}
-use Rattle.board.specs.Table.{tableIn, tableOf, boardOf, isTable}
+use Rattle.board.specs.Table.{tableIn, tableOf, zeroTable, boardOf, isTable}
 use Rattle.board.specs.EntryPoints.{outcomeOf, loadedMeans, LoadsAs, yesOrNo}
 use Rattle.board.proofs.Laws.Accepted.{accepted-bodies-below}
 use Rattle.board.proofs.Laws.Holds.{holds-step}
@@ -26,6 +26,11 @@ use Rattle.board.specs.declared.Loaded.the-variants.{Accepted}
 pub tableIn-accepted : (file : List ℕ) (b : Board) → load file ≡ accepted b → tableIn (load file) ≡ tableOf b
 unfolding tableIn
 tableIn-accepted file b e = rw e
+
+-- .. and that of a refused file "the table whose every field is zero"
+pub tableIn-refused : (file : List ℕ) (number place : ℕ) → load file ≡ refusedAt number place → tableIn (load file) ≡ zeroTable
+unfolding tableIn
+tableIn-refused file number place e = rw e
 
 -- a refusal of the right number and place
 pub refuses-loads : (answer : FileAnswer Board) (r : Loading) (number place : ℕ) → answer ≡ refusedAt number place → LoadsAs (refusedAt number place) r → LoadsAs answer r
