@@ -1,5 +1,6 @@
 pub mod Cases
 pub mod Ends
+pub mod Entries
 pub mod EntryPoints
 pub mod Explanations
 pub mod Order

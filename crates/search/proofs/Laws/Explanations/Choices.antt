@@ -8,13 +8,13 @@ use mathlib.Core.List.{List, [], _∷_, List·Memᴰ, List·Memᴰ·head}
 use mathlib.Core.Logic.{⊎-elim}
 use lib.Dec.{T, leb, leb→le, eqb→eq}
 use lib.ListN.{length}
-use Rattle.sets.specs.Lists.{all}
+use Rattle.sets.specs.Lists.{all, sameNumbers}
 use Rattle.sets.specs.Sets.{mostAtoms, member, with, setOf, subset, allBelow, members}
-use Rattle.sets.proofs.Laws.Lists.{all-at, all-of, among-at, sameNumbers-refl}
+use Rattle.sets.proofs.Laws.Lists.{all-at, all-of, all-cong, among-at, sameNumbers-refl, sameNumbers→eq}
 use Rattle.sets.proofs.Laws.Sets.{member-empty, member-setOf, with-cases, subset-at}
 use Rattle.sets.proofs.Laws.Sets.Bounds.{allBelow-empty, allBelow-up, allBelow-with, allBelow-setOf}
 use Rattle.sets.proofs.Laws.Sets.Members.{members-at, members-of}
-use Rattle.sets.proofs.Laws.Tests.{and-both, and-left, and-right}
+use Rattle.sets.proofs.Laws.Tests.{T-ext, and-both, and-left, and-right}
 use Rattle.board.specs.Board.{Board, Hypothesis, declaration, declarations, isHypothesis, chosenOf, boardStates}
 use Rattle.board.specs.Holds.{atomsOf}
 use Rattle.board.proofs.Promise.{Accepted, isHypothesis-find, isHypothesis-of, chosenOf-at, chosen-equal, AtMostOne, AtMostOne-empty, AtMostOne-with, AtMostOne-inside, AtMostOne-state, state-hypothesis}
@@ -75,7 +75,7 @@ state-choice b k {s} m = choice-of b (setOf (atomsOf s))
 -- ---- compatible sets
 
 -- one choice each at most, and the same one, is no different choice
-agree-short : (xs ys : List Hypothesis) → length xs ≤ 1 → length ys ≤ 1
+pub agree-short : (xs ys : List Hypothesis) → length xs ≤ 1 → length ys ≤ 1
     → ((g h : Hypothesis) → List·Memᴰ g xs → List·Memᴰ h ys → g ≡ h) → T (agree xs ys)
 unfolding agree
 agree-short [] ys l k f = tt
@@ -83,6 +83,27 @@ agree-short (x ∷ xs) [] l k f = tt
 agree-short (x ∷ []) (y ∷ []) l k f = rw (f x y (List·Memᴰ·head refl) (List·Memᴰ·head refl)) (sameNumbers-refl (atomsOf (y ∷ [])))
 agree-short (x ∷ []) (y ∷ z ∷ ys) l k f = absurd (omega arith)
 agree-short (x ∷ w ∷ xs) (y ∷ ys) l k f = absurd (omega arith)
+
+-- which of the two is named first does not matter
+agree-comm : (xs ys : List Hypothesis) → agree xs ys ≡ agree ys xs
+unfolding agree
+agree-comm [] [] = refl
+agree-comm [] (y ∷ ys) = refl
+agree-comm (x ∷ xs) [] = refl
+agree-comm (x ∷ xs) (y ∷ ys) = T-ext (sameNumbers gs hs) (sameNumbers hs gs) (turn gs hs) (turn hs gs)
+  where
+    gs : List ℕ
+    gs = atomsOf (x ∷ xs)
+
+    hs : List ℕ
+    hs = atomsOf (y ∷ ys)
+
+    turn : (ms ns : List ℕ) → T (sameNumbers ms ns) → T (sameNumbers ns ms)
+    turn ms ns t = rw (sameNumbers→eq ms ns t) (sameNumbers-refl ns)
+
+pub compatible-comm : (b : Board) (D E : ℕ) → compatible b D E ≡ compatible b E D
+unfolding compatible
+compatible-comm b D E = all-cong (declarations b) (λ d m. agree-comm (chosenOf D d) (chosenOf E d))
 
 -- two sets inside one with at most one choice per declaration are compatible
 pub compatible-inside : (b : Board) (D E S : ℕ) → T (subset D S) → T (subset E S) → T (isChoice b S) → T (compatible b D E)
