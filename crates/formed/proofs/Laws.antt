@@ -1,0 +1,10 @@
+pub mod Admitted
+pub mod Apart
+pub mod Conflicts
+pub mod First
+pub mod Fits
+pub mod Hypotheses
+pub mod Indices
+pub mod Ordered
+pub mod Weights
+pub mod Words

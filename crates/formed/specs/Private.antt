@@ -1,0 +1,3 @@
+-- What only contracts of private functions cite.
+pub mod Words
+pub mod Tests
