@@ -1,2 +1,4 @@
 pub mod Cases
 pub mod Demand3
+pub mod Driver
+pub mod Runs

@@ -1,3 +1,4 @@
--- What `bounds` means: read Demand3; Cases last.
+-- What `bounds` means: read Demand3, then Driver, which is the same of running code; Cases last.
 pub mod Demand3
+pub mod Driver
 pub mod Cases
