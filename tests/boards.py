@@ -4,6 +4,10 @@ A board is a structure (atom count, declarations, rules), as
 `enumerator.build_file` takes it.
 """
 
+import importlib.util
+import os
+from itertools import combinations
+
 from enumerator import build_file
 
 
@@ -90,6 +94,76 @@ def product_board(sizes, more_rules=()):
     return (atom + len(sizes), declarations, rules + list(more_rules)), heads
 
 
+def spread_board():
+    """Declarations of 8, 8 and 4 hypotheses and six of a sure one, over all of
+    128 atoms: 256 explanations with nine atoms each.  Gives the board and the
+    question, which has atoms that are sure too."""
+    atoms = iter(range(1, 128, 4))
+    declarations = [[(next(atoms), 7)] for _ in range(3)]
+    declarations += [[(next(atoms), 1 + i // 3) for i in range(size)]
+                     for size in (8, 8, 4)]
+    declarations += [[(next(atoms), 1)] for _ in range(3)]
+    heads = tuple(next(atoms) for _ in range(3))
+    rules = [(head, (atom,)) for head, declaration in zip(
+        heads, declarations[3:6]) for atom, _ in declaration]
+    sure = tuple(declaration[0][0] for declaration in declarations
+                 if len(declaration) == 1)
+    rules += [(127, sure[1:5] + heads)]
+    return (128, declarations, rules), (sure[0], sure[5], 127)
+
+
+def all_chosen_board():
+    """32 declarations of two, and one atom that follows from the first
+    hypothesis of each: its explanation has 32 atoms.  Atoms of both words, in
+    another order than that of the declarations."""
+    declarations = [[(37 * d % 64, 1 + d % 3), (64 + d, 1)] for d in range(32)]
+    firsts = sorted(declaration[0][0] for declaration in declarations)
+    rules = [(100 + i, tuple(firsts[8 * i:8 * i + 8])) for i in range(4)]
+    rules += [(127, (100, 101, 102, 103)), (127, (64, 95, 100, 101))]
+    return (128, declarations, rules), (127,)
+
+
+def brimful_board(fan, each, last, more=0, beside=()):
+    """A board whose store holds fan * each entries after 1 + fan steps, and
+    one step later, if there is room, last - 1 more.
+
+    Asked are p and q.  q has `fan` rules, from sets of one to three of 16
+    hypotheses; p has `each` rules, from one atom each, of which z, the
+    highest, has `last` rules.  The first atom below z is a fact.  With more =
+    1, z has one rule more, from that atom, which gives an entry that is held
+    already; with more = 2, its first rule is repeated.  `beside` has the
+    totals of declarations that no rule names.  Gives the board and the
+    question."""
+    bodies = [body for size in (1, 2, 3)
+              for body in combinations(range(16), size)][:fan]
+    others = range(16, 15 + each)
+    ends = range(15 + each, 15 + each + last)
+    z = 15 + each + last
+    p, q = z + 1, z + 2
+    rules = [(q, body) for body in bodies]
+    rules += [(p, (atom,)) for atom in (*others, z)]
+    rules += [(z, (atom,)) for atom in ends]
+    rules += [[], [(z, (16,))], [(z, (15 + each,))]][more] + [(16, ())]
+    declarations = [[(atom, 1) for atom in range(16)]]
+    declarations += [[(q + 1 + i, total)] for i, total in enumerate(beside)]
+    return (q + 1 + len(beside), declarations, rules), (p, q)
+
+
+def late_board(kind):
+    """256 explanations of one choice from each of two declarations of 16; and
+    one more, which comes after them: with kind "apart" it is c, compatible
+    with all of them, with "against" all 256 have d, which excludes c, and with
+    "inside" it has one of the 256 in it.  Gives the board and the question."""
+    declarations = [[(16 * d + i, 1) for i in range(16)] for d in range(2)]
+    c, d, p, r, q = 32, 33, 34, 35, 36
+    declarations.append([(c, 1), (d, 1000)])
+    rules = [(p, (atom,)) for atom in range(16)]
+    rules += [(r, (atom,)) for atom in range(16, 32)]
+    rules += [(q, (d, p, r) if kind == "against" else (p, r)),
+              (q, (0, 16, c) if kind == "inside" else (c,))]
+    return (37, declarations, rules), (q,)
+
+
 def board_with_bodies(count):
     """`count` rules with 8 body atoms each, no declaration: the heads 8 to
     127 in turn, from the 8 atoms right below, then from the 8 lowest, then
@@ -136,6 +210,21 @@ def wide_board():
         start = 37 * number % (head - 7)
         rules.append((head, tuple(range(start, start + 8))))
     return (128, declarations, rules)
+
+
+def bench_boards():
+    """The boards of the benchmark, whose stores stand at some 500 entries for
+    thousands of steps: by name the file and the question."""
+    path = os.path.join(os.path.dirname(os.path.dirname(
+        os.path.abspath(__file__))), "bench", "boards.py")
+    spec = importlib.util.spec_from_file_location("bench_boards", path)
+    bench = importlib.util.module_from_spec(spec)
+    spec.loader.exec_module(bench)
+    found = {}
+    for name, make in bench.BOARDS.items():
+        maker, question = make()
+        found[name] = maker.file(), tuple(question)
+    return found
 
 
 def accepted_boards():

@@ -1,6 +1,6 @@
 #!/usr/bin/env python3
 """Runs all checks: of the enumerator against document 01 and against itself,
-and of the files stored for the loading program.
+and of the files stored for the programs loading and searching.
 
 Exit status 0 only if nothing failed.  Seeds are fixed, so two runs do the
 same.  A new group of checks is a function with `@section(...)` above it, in a
@@ -13,7 +13,7 @@ import time
 sys.dont_write_bytecode = True
 
 from checks.tally import SECTIONS, Tally  # noqa: E402
-from checks import cases, demand3, listings  # noqa: E402,F401
+from checks import carried, cases, demand3, listings  # noqa: E402,F401
 from checks import loads, searches, stored  # noqa: E402,F401
 
 

@@ -1,6 +1,7 @@
 """Random boards, questions and allowances, and files spoiled at random."""
 
-from enumerator import BODY_BYTES, read_record
+from enumerator import (BODY_BYTES, Line, Search, compatible, entry_order,
+                        line_order, new_entry, read_record, set_weight)
 
 
 def random_board(rng, most_sets=250):
@@ -74,8 +75,15 @@ def tame_board(rng, most_sets):
     others = rng.randint(1, 6)
     atoms = low_or_any_atoms(rng, sum(sizes), others)
     declarations = random_declarations(rng, sizes, atoms)
+    return (sum(sizes) + others, declarations, shaken(rng, tame_rules(
+        rng, declarations, atoms[sum(sizes):])))
+
+
+def tame_rules(rng, declarations, heads):
+    """Rules for these heads, those of one head mostly with different choices
+    from one declaration."""
     rules = []
-    for head in sorted(atoms[sum(sizes):]):
+    for head in sorted(heads):
         usable = [[atom for atom, _ in declaration if atom < head]
                   for declaration in declarations]
         usable = [part for part in usable if part]
@@ -84,7 +92,41 @@ def tame_board(rng, most_sets):
                       for atom in rng.choice(usable) if rng.random() < 0.9]
         else:
             rules.append((head, random_body(rng, head, (), (0, 1, 2))))
+    return rules
+
+
+def tied_board(rng):
+    """A tame or a wild board in which most weights are 1 and many hypotheses
+    are sure, so that many sets weigh the same."""
+    sizes = [rng.choice((1, 1, 1, 2, 2, 3)) for _ in range(rng.randint(3, 8))]
+    others = rng.randint(3, 9)
+    atoms = low_or_any_atoms(rng, sum(sizes), others)
+    used = iter(atoms)
+    declarations = [[(next(used), 1) for _ in range(size)] for size in sizes]
+    rules = tame_rules(rng, declarations, atoms[sum(sizes):])
+    for head in atoms[sum(sizes):]:         # and the same with one more atom
+        for body in [body for other, body in rules if other == head]:
+            if rng.random() < 0.4:
+                rules.append((head, random_body(rng, head, body, (1, 1, 2))))
     return (sum(sizes) + others, declarations, shaken(rng, rules))
+
+
+def large_board(rng):
+    """A tame board of 20 to 128 atoms, mostly up to 60.  Its W is at most
+    10^15, and no declaration makes it larger than 9 * 9 times."""
+    count = rng.choice((rng.randint(20, 60), rng.randint(20, 60), 128))
+    most = rng.choice((count // 3, count // 2, 2 * count // 3))
+    top_weight = rng.choice((1, 2, 5, 9))
+    atoms = low_or_any_atoms(rng, most, count - most)
+    declarations, used, whole = [], 0, 1
+    while used < most and len(declarations) < 32 and whole < 10 ** 13:
+        size = min(rng.choice((1, 2, 2, 3, 3, 4, 6, 9)), most - used)
+        declarations.append([(atom, rng.randint(1, top_weight))
+                             for atom in atoms[used:used + size]])
+        whole *= sum(weight for _, weight in declarations[-1])
+        used += size
+    rules = tame_rules(rng, declarations, atoms[used:])
+    return (count, declarations, shaken(rng, rules)[:256])
 
 
 def net_board(rng, most_sets):
@@ -128,6 +170,17 @@ def net_board(rng, most_sets):
     return (len(atoms), declarations, shaken(rng, rules))
 
 
+def spread_over(rng, board, wider):
+    """The board with its atoms, in their order, anywhere among so many."""
+    atom_count, declarations, rules = board
+    to = sorted(rng.sample(range(wider), atom_count))
+    return (wider,
+            [[(to[atom], weight) for atom, weight in declaration]
+             for declaration in declarations],
+            [(to[head], tuple(to[atom] for atom in body))
+             for head, body in rules])
+
+
 def random_body(rng, head, with_atoms, counts):
     """A body for the head: the given atoms and some others below it, half of
     the time near it."""
@@ -149,6 +202,32 @@ def random_question(rng, table):
         else:
             asked.add(rng.randrange(table.atom_count))
     return tuple(sorted(asked))
+
+
+def random_set(rng, table, often):
+    """A set with at most one hypothesis per declaration."""
+    return tuple(sorted(rng.choice(declaration)[0]
+                        for declaration in table.declarations
+                        if rng.random() < often))
+
+
+def random_search(rng, table):
+    """A search that is well formed, though no opening and runs may lead to
+    it: lines that are not compatible, and entries that go after them."""
+    lines = []
+    for _ in range(rng.choice((0, 0, 1, 3, 6))):
+        chosen = random_set(rng, table, 0.7)
+        if not any(compatible(table, chosen, line.chosen) for line in lines):
+            lines.append(Line(set_weight(table, chosen), chosen))
+    lines.sort(key=line_order)
+    often = rng.random()
+    entries = {new_entry(table, random_set(rng, table, often), [
+        atom for atom in range(table.atom_count)
+        if rng.random() < 1.5 / table.atom_count])
+        for _ in range(rng.choice((1, 3, 8, 14)))}
+    entries = [entry for entry in sorted(entries, key=entry_order)
+               if not lines or line_order(lines[-1]) < entry_order(entry)]
+    return Search(tuple(entries), tuple(lines))
 
 
 def random_allowances(rng):

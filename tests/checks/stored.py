@@ -9,25 +9,25 @@ import sys
 import tempfile
 
 import enumerator as en
-import loading
 from checks.loads import hold_load
 from checks.tally import TESTS, section
 from containers.arrays import Arrays, loaded_arrays, with_value
 from containers.common import taken_apart
 from containers.states_bin import NO, YES
 from containers.tables_bin import NO_TABLE, TABLE
+from loading import PROGRAM
 
 
 @section("files for the loading program")
 def loading_files(tally):
-    stored = loading.stored_files()
+    stored = PROGRAM.stored_files()
     lines = stored["stdout"].decode("ascii").split("\n")
     counts = [len(container.items())
-              for container in loading.CONTAINERS.values()]
+              for container in PROGRAM.containers.values()]
     tally.same("a line for each item, and a line feed at the end",
                (len(lines), lines[-1]), (sum(counts) + 1, ""))
     began = 0
-    for name, container in loading.CONTAINERS.items():
+    for name, container in PROGRAM.containers.items():
         written = stored[os.path.join("data", name)]
         items = container.items()
         tally.true("%s is below %d bytes" % (name, container.MOST),
@@ -150,7 +150,7 @@ def told(*arguments):
     """The exit status of loading.py and what it prints."""
     said = io.StringIO()
     with contextlib.redirect_stdout(said):
-        status = loading.main(list(arguments))
+        status = PROGRAM.main(list(arguments))
     return status, said.getvalue()
 
 
@@ -163,7 +163,7 @@ def loading_command_line(tally):
         subprocess.run([sys.executable, "-B", script, folder], timeout=60,
                        check=True)
         tally.same("written and compared", told("--stale", folder), (0, ""))
-        for name, wanted in loading.stored_files().items():
+        for name, wanted in PROGRAM.stored_files().items():
             path = os.path.join(folder, name)
             tally.same("written: " + name, en.file_bytes(path), wanted)
             for what, spoiled in (
@@ -184,7 +184,7 @@ def loading_command_line(tally):
 @section("stored files of crates/loading")
 def loading_stored(tally):
     folder = os.path.join(os.path.dirname(TESTS), "crates", "loading")
-    for sentence in loading.stale_files(folder):
+    for sentence in PROGRAM.stale_files(folder):
         tally.fail(sentence + "; to write anew: "
                    "python3 tests/loading.py crates/loading")
-    tally.checks += len(loading.stored_files())
+    tally.checks += len(PROGRAM.stored_files())

@@ -19,7 +19,7 @@ from containers.arrays import (ATOM, ATOMS, BODY, DECLARATION, HEAD, HELD_IN,
                                loaded_arrays, some_file_loads_to, used_of,
                                with_value)
 from containers.common import FAR
-from random_boards import random_board
+from random_boards import random_board, spread_over
 
 TAIL = (1, 2, 4)
 MOST = 250_000              # it has fewer bytes than this
@@ -273,14 +273,7 @@ def random_tables():
 
 def spread(rng, board):
     """The board with its atoms further apart, so that some are left over."""
-    atom_count, declarations, rules = board
-    more = rng.choice((0, 0, 1, 2, 5))
-    to = sorted(rng.sample(range(atom_count + more), atom_count))
-    return (atom_count + more,
-            [[(to[atom], weight) for atom, weight in declaration]
-             for declaration in declarations],
-            [(to[head], tuple(to[atom] for atom in body))
-             for head, body in rules])
+    return spread_over(rng, board, board[0] + rng.choice((0, 0, 1, 2, 5)))
 
 
 def random_change(rng, arrays, field):
