@@ -38,10 +38,13 @@ decimal n = decimalOf (suc n) n
 
 -- ---- the parts of a listing
 
+-- atoms, each after a blank
+abbrev pub atomsText : List ℕ → List ℕ
+atomsText atoms = flatten (map (λ a. bytesOf " " ++ decimal a) atoms)
+
 -- "Each further line is a weight and the set's atoms, ascending."
 unfoldable pub lineText : Line → List ℕ
-lineText l =
-    decimal (l .weight) ++ flatten (map (λ a. bytesOf " " ++ decimal a) (members (l .chosen))) ++ bytesOf "\n"
+lineText l = decimal (l .weight) ++ atomsText (members (l .chosen)) ++ bytesOf "\n"
 
 -- "then done, more or the refusal's number"
 unfoldable pub endingText : Ending → List ℕ
@@ -50,17 +53,21 @@ endingText more = bytesOf "more"
 endingText (stopped number) = decimal number
 
 -- "The last has the ends, the steps of this run, then .."
-unfoldable pub lastText : RunAnswer → List ℕ
-lastText r =
+abbrev pub endsText : ℕ → ℕ → ℕ → Ending → List ℕ
+endsText low high steps ending =
     bytesOf "low "
-    ++ decimal (r .low)
+    ++ decimal low
     ++ bytesOf " high "
-    ++ decimal (r .high)
+    ++ decimal high
     ++ bytesOf " steps "
-    ++ decimal (r .steps)
+    ++ decimal steps
     ++ bytesOf " "
-    ++ endingText (r .ending)
+    ++ endingText ending
     ++ bytesOf "\n"
+
+-- so of a run
+unfoldable pub lastText : RunAnswer → List ℕ
+lastText r = endsText (r .low) (r .high) (r .steps) (r .ending)
 
 -- "The first line is W"; the lines; the last line
 unfoldable pub ranText : Board → RunAnswer → List ℕ

@@ -21,6 +21,7 @@ use Rattle.board.proofs.Laws.Table.{isTable-board}
 use Rattle.board.specs.declared.Table.{Table}
 use Rattle.board.specs.declared.Loading.{Loading}
 use Rattle.board.specs.declared.Loaded.the-variants.{Accepted}
+use Rattle.board.specs.declared.Loaded.the-variants as loaded
 
 -- the table that loading a file hands back is that of the board it was accepted with
 pub tableIn-accepted : (file : List ℕ) (b : Board) → load file ≡ accepted b → tableIn (load file) ≡ tableOf b
@@ -31,6 +32,19 @@ tableIn-accepted file b e = rw e
 pub tableIn-refused : (file : List ℕ) (number place : ℕ) → load file ≡ refusedAt number place → tableIn (load file) ≡ zeroTable
 unfolding tableIn
 tableIn-refused file number place e = rw e
+
+-- what the answer beside the table says of a load: some board was accepted ..
+pub accepted-of : (answer : FileAnswer Board) → loadedMeans loaded.Accepted ≡ outcomeOf answer → (b : Board) × (answer ≡ accepted b)
+unfolding loadedMeans outcomeOf
+accepted-of (accepted b) e = (b, refl)
+accepted-of (refusedAt number place) e = let z : _≡_ {A = ℕ} 0 1 = cc in absurd (omega arith)
+
+-- .. or the file refused
+pub refusedAt-of : (answer : FileAnswer Board) (number place : ℕ) → loadedMeans (loaded.Refused number place) ≡ outcomeOf answer
+    → answer ≡ refusedAt number place
+unfolding loadedMeans outcomeOf
+refusedAt-of (accepted b) number place e = let z : _≡_ {A = ℕ} 0 1 = cc in absurd (omega arith)
+refusedAt-of (refusedAt n p) number place e = cc
 
 -- a refusal of the right number and place
 pub refuses-loads : (answer : FileAnswer Board) (r : Loading) (number place : ℕ) → answer ≡ refusedAt number place → LoadsAs (refusedAt number place) r → LoadsAs answer r

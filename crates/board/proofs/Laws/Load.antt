@@ -1,5 +1,6 @@
 -- Laws of the board read so far: the parts of what it passes, and that a record that no field check refuses leaves it such a board. Assumes nothing.
 pub mod Checks
+pub mod Deciding
 pub mod Each
 pub mod Hypotheses
 pub mod Loaded

@@ -1,23 +1,25 @@
--- Laws of sets with at most one choice per declaration: what `isChoice` says, part by part, that a board state is such a set, and that two sets
--- inside such a set are compatible. Assumes nothing.
-use Prim.Native.Nat.{ℕ, _≤_}
+-- Laws of sets with at most one choice per declaration: what `isChoice` says, part by part, how many atoms such a set has, that a board state is
+-- one, and that two sets inside one are compatible. Assumes nothing.
+use Prim.Native.Nat.{ℕ, suc, _≤_, _<_}
 use native.Mathlib.Omega.{arith}
-use mathlib.Core.Path.{_≡_, refl}
-use mathlib.Core.Bool.{_&&_}
-use mathlib.Core.List.{List, [], _∷_, List·Memᴰ, List·Memᴰ·head}
+use mathlib.Core.Path.{_≡_, refl, ap, _∙_}
+use mathlib.Core.Bool.{Bool, true, false, _&&_}
+use mathlib.Core.List.{List, [], _∷_, map, List·Memᴰ, List·Memᴰ·head, List·Memᴰ·tail, List·Memᴰ·not-nil, Memᴰ·map}
 use mathlib.Core.Logic.{⊎-elim}
 use lib.Dec.{T, leb, leb→le, eqb→eq}
-use lib.ListN.{length}
-use Rattle.sets.specs.Lists.{all, sameNumbers}
-use Rattle.sets.specs.Sets.{mostAtoms, member, with, setOf, subset, allBelow, members}
-use Rattle.sets.proofs.Laws.Lists.{all-at, all-of, all-cong, among-at, sameNumbers-refl, sameNumbers→eq}
-use Rattle.sets.proofs.Laws.Sets.{member-empty, member-setOf, with-cases, subset-at}
-use Rattle.sets.proofs.Laws.Sets.Bounds.{allBelow-empty, allBelow-up, allBelow-with, allBelow-setOf}
-use Rattle.sets.proofs.Laws.Sets.Members.{members-at, members-of}
-use Rattle.sets.proofs.Laws.Tests.{T-ext, and-both, and-left, and-right}
+use lib.ListN.{length, length-map}
+use Rattle.sets.specs.Lists.{all, below, sameNumbers}
+use Rattle.sets.specs.Sets.{mostAtoms, member, with, without, setOf, subset, allBelow, members, size}
+use Rattle.sets.proofs.Laws.Lists.{all-at, all-of, all-cong, among-at, short-equal, sameNumbers-refl, sameNumbers→eq}
+use Rattle.sets.proofs.Laws.Lists.Indices.{length-below, below-of}
+use Rattle.sets.proofs.Laws.Sets.{member-empty, member-setOf, with-cases, without-same, without-left, without-not-member, subset-at, subset-of}
+use Rattle.sets.proofs.Laws.Sets.Bounds.{allBelow-at, allBelow-empty, allBelow-up, allBelow-with, allBelow-without, allBelow-setOf}
+use Rattle.sets.proofs.Laws.Sets.Members.{members-at, members-of, size-empty, size-without, size-subset}
+use Rattle.sets.proofs.Laws.Tests.{T-of-true, T-ext, and-both, and-left, and-right}
+use Rattle.board.specs.Sizes.{mostDeclarations}
 use Rattle.board.specs.Board.{Board, Hypothesis, declaration, declarations, isHypothesis, chosenOf, boardStates}
 use Rattle.board.specs.Holds.{atomsOf}
-use Rattle.board.proofs.Promise.{Accepted, isHypothesis-find, isHypothesis-of, chosenOf-at, chosen-equal, AtMostOne, AtMostOne-empty, AtMostOne-with, AtMostOne-inside, AtMostOne-state, state-hypothesis}
+use Rattle.board.proofs.Promise.{Accepted, declarationsIn-member, isHypothesis-find, isHypothesis-of, hypothesis-declaration, chosenOf-at, chosenOf-of, chosen-equal, AtMostOne, AtMostOne-empty, AtMostOne-with, AtMostOne-inside, AtMostOne-state, state-hypothesis}
 use Rattle.search.specs.Explanations.{isChoice, agree, compatible}
 
 module _ (b : Board) (D : ℕ) where
@@ -62,6 +64,51 @@ choice-with b k D c {h} m untouched = choice-of b (with (h .atom) D)
     (allBelow-with (b .atoms) (h .atom) D (k .hypothesis h m .atomBelow) (choice-below b D c))
     (λ a t. ⊎-elim (choice-hypothesis b D k c a) (λ e. rw (eqb→eq (h .atom) a e) at (isHypothesis-of b m)) (with-cases a (h .atom) D t))
     (AtMostOne-with b k D h m untouched (choice-one b D c))
+
+-- ---- how many atoms
+
+-- a set whose atoms are all listed has no more atoms than the list
+size-listed : (xs : List ℕ) (s : ℕ) → T (allBelow mostAtoms s) → ((a : ℕ) → T (member a s) → List·Memᴰ a xs) → size s ≤ length xs
+size-listed [] s b f = omega (arith, size-empty, size-subset s 0 (subset-of s 0 (λ a m. absurd (List·Memᴰ·not-nil (f a m)))))
+size-listed (x ∷ xs) s b f =
+    omega (arith, less (member x s) refl, size-listed xs (without x s) (allBelow-without mostAtoms x s b) (λ a m. rest a m (f a (without-left a x s m))))
+  where
+    less : (t : Bool) → member x s ≡ t → size s ≤ suc (size (without x s))
+    less true e = omega (arith, size-without x s (T-of-true e) (allBelow-at mostAtoms s x b (T-of-true e)))
+    less false e = rw (without-not-member x s e) (omega arith)
+
+    rest : (a : ℕ) → T (member a (without x s)) → List·Memᴰ a (x ∷ xs) → List·Memᴰ a xs
+    rest a m (List·Memᴰ·head e) = absurd (rw (e, without-same x s) at m)
+    rest a m (List·Memᴰ·tail n) = n
+
+-- the atom of the first of these hypotheses
+firstAtom : List Hypothesis → ℕ
+firstAtom [] = 0
+firstAtom (h ∷ hs) = h .atom
+
+-- where there is at most one hypothesis, its atom
+firstAtom-only : (hs : List Hypothesis) → length hs ≤ 1 → {h : Hypothesis} → List·Memᴰ h hs → firstAtom hs ≡ h .atom
+unfolding firstAtom
+firstAtom-only [] l m = absurd (List·Memᴰ·not-nil m)
+firstAtom-only (g ∷ hs) l m = ap (λ (h : Hypothesis). h .atom) (short-equal (g ∷ hs) l (List·Memᴰ·head refl) m)
+
+-- a choice has no more atoms than there are declarations
+pub choice-size : (b : Board) → Accepted b → (D : ℕ) → T (isChoice b D) → size D ≤ mostDeclarations
+choice-size b k D c =
+    rw (length-map (below mostDeclarations) chosen, length-below) at (size-listed (map chosen (below mostDeclarations)) D (choice-room b D k c) listed)
+  where
+    -- what D chose of declaration i
+    chosen : ℕ → ℕ
+    chosen i = firstAtom (chosenOf D (declaration (b .hypotheses) i))
+
+    listed : (a : ℕ) → T (member a D) → List·Memᴰ a (map chosen (below mostDeclarations))
+    listed a t =
+        let (h, m, e) = isHypothesis-find b a (choice-hypothesis b D k c a t) in
+        let (n, i) = hypothesis-declaration b m in
+        let one = leb→le _ 1 (all-at (λ d. leb (length (chosenOf D d)) 1) (choice-one b D c) n) in
+        let own : chosen (h .declaration) ≡ a = firstAtom-only _ one (chosenOf-of D i (rw e t)) ∙ e in
+        let room : h .declaration < mostDeclarations = omega (arith, declarationsIn-member m, k .declarationsRoom) in
+        rw own at (Memᴰ·map chosen (below-of room))
 
 -- ---- board states
 
