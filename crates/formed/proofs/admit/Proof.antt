@@ -7,15 +7,24 @@ use mathlib.Core.Bool.{true, false}
 use Prim.Native.Nat.{min}
 use lib.Dec.{leb}
 use borrow.Author.Tests.{leb-true, not-true, not-false}
+use denote.Ref.{now}
 use Rattle.sets.proofs.Laws.Tests.{T-of-true}
 use Rattle.board.specs.Table.{rulesIn, boardOf, isTable}
 use Rattle.board.proofs.Promise.{isTable-board, boardOf-atoms, table-weight}
 use Rattle.search.specs.Store.{wellFormed}
-use Rattle.formed.specs.Admitted.{within}
+use Rattle.search.specs.declared.Search.{Search as Stored}
+use Rattle.formed.specs.Admitted.{within, storedIn}
 use Rattle.formed.specs.Private.Words.{SomeTable, Known}
 use Rattle.formed.proofs.Laws.Admitted.{crowded-entries, crowded-lines, roomy, refusal-table, refusal-search, refusal-none, admits-refused, admits-search}
 use Rattle.formed.proofs.admit.Statement.{statement}
 use Rattle.formed.proofs.admit.Tie as tie
+
+-- the struct with the arrays that are lent
+abbrev stored : tie.Start → Stored
+stored s =
+    let a = s .args in
+    storedIn (now (a .weight)) (now (a .chosen-low)) (now (a .chosen-high)) (now (a .pending-low)) (now (a .pending-high)) (a .n)
+    (now (a .line-weight)) (now (a .line-low)) (now (a .line-high)) (a .m)
 
 is-table-requires : tie.Need-is-table-requires
 is-table-requires c κs = search needs
@@ -29,9 +38,10 @@ table-right c = sym (c .before .is-table .ensures) ∙ not-false _ (c .if1 .left
 
 returns : tie.Need-returns
 returns c =
-    let a = c .before .before .before .args in
-    admits-refused (within (a .entries) (a .lines)) (a .t1) (a .s) 20
-    (refusal-table _ (a .t1) (a .s) (sym (c .before .before .is-table .ensures) ∙ not-true _ (c .before .if1 .taken))) (λ e. omega arith) (c .refused .result) (c .refused .ensures)
+    let st = c .before .before .before in
+    let a = st .args in
+    admits-refused (within (a .entries) (a .lines)) (a .t1) (stored st) 20
+    (refusal-table _ (a .t1) (stored st) (sym (c .before .before .is-table .ensures) ∙ not-true _ (c .before .if1 .taken))) (λ e. omega arith) (c .refused .result) (c .refused .ensures)
 
 at-most-requires : tie.Need-at-most-requires
 at-most-requires c κs = search needs
@@ -47,11 +57,12 @@ unfolding within
 returns-2 c =
     let j = c .before in
     let m = j .before in
-    let a = m .before .before .before .args in
-    let bad : wellFormed (within (a .entries) (a .lines)) (boardOf (a .t1)) (a .s) ≡ false =
-    ⊎-elim (λ w. crowded-entries _ _ (a .s) (sym (m .at-most .ensures) ∙ not-true _ (w .taken)))
-    (λ w. crowded-lines _ _ (a .s) (sym (m .at-most .ensures) ∙ not-false _ (w .0 .left)) (sym (w .1 .ensures) ∙ not-true _ (w .2 .taken))) (j .if2 .came) in
-    admits-refused (within (a .entries) (a .lines)) (a .t1) (a .s) 34 (refusal-search _ (a .t1) (a .s) (table-right (m .before)) bad) (λ e. omega arith)
+    let st = m .before .before .before in
+    let a = st .args in
+    let bad : wellFormed (within (a .entries) (a .lines)) (boardOf (a .t1)) (stored st) ≡ false =
+    ⊎-elim (λ w. crowded-entries _ _ (stored st) (sym (m .at-most .ensures) ∙ not-true _ (w .taken)))
+    (λ w. crowded-lines _ _ (stored st) (sym (m .at-most .ensures) ∙ not-false _ (w .0 .left)) (sym (w .1 .ensures) ∙ not-true _ (w .2 .taken))) (j .if2 .came) in
+    admits-refused (within (a .entries) (a .lines)) (a .t1) (stored st) 34 (refusal-search _ (a .t1) (stored st) (table-right (m .before)) bad) (λ e. omega arith)
     (c .refused2 .result) (c .refused2 .ensures)
 
 whole-weight-requires : tie.Need-whole-weight-requires
@@ -69,10 +80,10 @@ hypothesis-words-requires c κs = some-table (c .before .before .before .before 
 
 -- ---- the counts have room
 
-entries-right : (c : tie.Else2) → let a = c .before .before .before .before .args in leb (a .s .entries) (min (a .entries) 512) ≡ true
+entries-right : (c : tie.Else2) → let a = c .before .before .before .before .args in leb (a .n) (min (a .entries) 512) ≡ true
 entries-right c = sym (c .before .at-most .ensures) ∙ not-false _ (c .if2 .left)
 
-lines-right : (c : tie.Else3) → let a = c .before .before .before .before .before .before .args in leb (a .s .lines) (min (a .lines) 256) ≡ true
+lines-right : (c : tie.Else3) → let a = c .before .before .before .before .before .before .args in leb (a .m) (min (a .lines) 256) ≡ true
 lines-right c = sym (c .before .at-most2 .ensures) ∙ not-false _ (c .if3 .left)
 
 -- the words and W are the table's
@@ -91,10 +102,11 @@ search-fits-requires : tie.Need-search-fits-requires
 unfolding within
 search-fits-requires c κs =
     let e = c .before .before .before .before .before .before .before .before .before .before in
-    let a = c .before .before .before .before .before .before .before .before .before .before .before .before .before .before .before .before .args in (
+    let st = c .before .before .before .before .before .before .before .before .before .before .before .before .before .before .before .before in
+    let a = st .args in (
       (
-        omega (arith, leb-true (a .s .entries) (min (a .entries) 512) (entries-right (e .before .before))),
-        omega (arith, leb-true (a .s .lines) (min (a .lines) 256) (lines-right e)),
+        omega (arith, leb-true (a .n) (min (a .entries) 512) (entries-right (e .before .before))),
+        omega (arith, leb-true (a .m) (min (a .lines) 256) (lines-right e)),
       ),
       record { board = boardOf (a .t1); known = known c },
     )
@@ -103,29 +115,32 @@ refused-requires-3 : tie.Need-refused-requires-3
 refused-requires-3 c κs = search needs
 
 -- so the search's test is whether it is well formed
-decided : (c : tie.After-search-fits) → let a = c .before .before .before .before .before .before .before .before .before .before .before .before .before .before .before .before .before .args in c .search-fits .result ≡ wellFormed (within (a .entries) (a .lines)) (boardOf (a .t1)) (a .s)
+decided : (c : tie.After-search-fits) → let st = c .before .before .before .before .before .before .before .before .before .before .before .before .before .before .before .before .before in let a = st .args in c .search-fits .result ≡ wellFormed (within (a .entries) (a .lines)) (boardOf (a .t1)) (stored st)
 unfolding within
 decided c =
     let e = c .before .before .before .before .before .before .before .before .before .before .before in
-    let a = c .before .before .before .before .before .before .before .before .before .before .before .before .before .before .before .before .before .args in
+    let st = c .before .before .before .before .before .before .before .before .before .before .before .before .before .before .before .before .before in
+    let a = st .args in
     c .search-fits .ensures (boardOf (a .t1)) (known (c .before)) (sym (boardOf-atoms (a .t1)))
-    ∙ roomy (within (a .entries) (a .lines)) (boardOf (a .t1)) (a .s) (entries-right (e .before .before)) (lines-right e)
+    ∙ roomy (within (a .entries) (a .lines)) (boardOf (a .t1)) (stored st) (entries-right (e .before .before)) (lines-right e)
 
 returns-3 : tie.Need-returns-3
 returns-3 c =
     let f = c .before .before in
-    let a = f .before .before .before .before .before .before .before .before .before .before .before .before .before .before .before .before .before .args in
-    admits-refused (within (a .entries) (a .lines)) (a .t1) (a .s) 34
-    (refusal-search _ (a .t1) (a .s) (table-right (f .before .before .before .before .before .before .before .before .before .before .before .before .before .before .before)) (sym (decided f) ∙ not-true _ (c .before .if4 .taken))) (λ e. omega arith)
+    let st = f .before .before .before .before .before .before .before .before .before .before .before .before .before .before .before .before .before in
+    let a = st .args in
+    admits-refused (within (a .entries) (a .lines)) (a .t1) (stored st) 34
+    (refusal-search _ (a .t1) (stored st) (table-right (f .before .before .before .before .before .before .before .before .before .before .before .before .before .before .before)) (sym (decided f) ∙ not-true _ (c .before .if4 .taken))) (λ e. omega arith)
     (c .refused3 .result) (c .refused3 .ensures)
 
 returns-4 : tie.Need-returns-4
 returns-4 c =
     let f = c .before in
-    let a = f .before .before .before .before .before .before .before .before .before .before .before .before .before .before .before .before .before .args in
+    let st = f .before .before .before .before .before .before .before .before .before .before .before .before .before .before .before .before .before in
+    let a = st .args in
     let k = known (f .before) in
-    admits-search (within (a .entries) (a .lines)) (a .t1) (a .s)
-    (refusal-none _ (a .t1) (a .s) (table-right (f .before .before .before .before .before .before .before .before .before .before .before .before .before .before .before)) (sym (decided f) ∙ not-false _ (c .if4 .left))) _ refl (k .whole) (k .words)
+    admits-search (within (a .entries) (a .lines)) (a .t1) (stored st)
+    (refusal-none _ (a .t1) (stored st) (table-right (f .before .before .before .before .before .before .before .before .before .before .before .before .before .before .before)) (sym (decided f) ∙ not-false _ (c .if4 .left))) _ refl (k .whole) (k .words)
 
 pub admit-spec : {M : Type 1} → statement M
 admit-spec =
