@@ -1,0 +1,96 @@
+-- `put_lines` meets its contract: the texts of the first `i` lines are put. Assumes nothing.
+use native.Mathlib.Omega.{arith}
+use Prim.Native.Nat.{ℕ, _≤_, _-_}
+use mathlib.Core.Path.{_≡_, refl, _∙_, subst}
+use mathlib.Core.List.{List}
+use lib.ListN.{length}
+use denote.Ref.{now}
+use Rattle.search.specs.Listing.{lineText}
+use Rattle.text.specs.Private.Putting.{PutAs, textsBelow, lineIn, linesText}
+use Rattle.text.proofs.Laws.Putting.{put-length}
+use Rattle.text.proofs.Laws.Texts.{texts-none, texts-next, texts-put}
+use Rattle.text.proofs.lines.put_lines.Statement.{statement}
+use Rattle.text.proofs.lines.put_lines.Tie as tie
+
+abbrev Inv-loop : tie.InvT-loop
+Inv-loop text₀ at weights lows highs n end₀ i₀ text end i = PutAs text₀ at (linesText weights lows highs i) text end × (i ≤ n) × (length text ≡ length text₀)
+
+abbrev μ-loop : tie.MeasureT-loop
+μ-loop text₀ at weights lows highs n end₀ i₀ text end i = n - i
+
+-- the text of a line
+abbrev of : tie.Start Inv-loop μ-loop → ℕ → List ℕ
+of s i = lineText (lineIn (now (s .args .weights)) (now (s .args .lows)) (now (s .args .highs)) i)
+
+loop-holds : tie.Need-loop-holds Inv-loop μ-loop
+loop-holds c = (texts-none (of (c .before)), omega arith, refl)
+
+mul-put-line : tie.Need-mul-put-line Inv-loop μ-loop
+mul-put-line c = omega arith
+
+element-copy-out-put-line : tie.Need-element-copy-out-put-line Inv-loop μ-loop
+element-copy-out-put-line c = omega arith
+
+mul-put-line-2 : tie.Need-mul-put-line-2 Inv-loop μ-loop
+mul-put-line-2 c = omega arith
+
+element-copy-out-put-line-2 : tie.Need-element-copy-out-put-line-2 Inv-loop μ-loop
+element-copy-out-put-line-2 c = omega arith
+
+mul-put-line-3 : tie.Need-mul-put-line-3 Inv-loop μ-loop
+mul-put-line-3 c = omega arith
+
+element-copy-out-put-line-3 : tie.Need-element-copy-out-put-line-3 Inv-loop μ-loop
+element-copy-out-put-line-3 c = omega arith
+
+put-line-requires : tie.Need-put-line-requires Inv-loop μ-loop
+put-line-requires c κs =
+    let s = c .before .before .before .before .before .before .before in
+    let l = c .before .before .before .before .before .loop in
+    texts-next (of s) (l .i) (s .args .n) (omega arith) (s .pre .1) (l .inv .0)
+
+add-i : tie.Need-add-i Inv-loop μ-loop
+add-i c = omega arith
+
+loop-less : tie.Need-loop-less Inv-loop μ-loop
+loop-less c = omega arith
+
+loop-again : tie.Need-loop-again Inv-loop μ-loop
+loop-again c =
+    let s = c .before .before .before .before .before .before .before .before .before .before in
+    let l = c .before .before .before .before .before .before .before .before .loop in
+    let p = c .before .before .put-line .ensures in (
+      texts-put (of s) (l .i) (s .args .n) (omega arith) (s .pre .1) (l .inv .0) p,
+      omega arith,
+      put-length p (texts-next (of s) (l .i) (s .args .n) (omega arith) (s .pre .1) (l .inv .0)) ∙ l .inv .2,
+    )
+
+same-length : tie.Need-same-length Inv-loop μ-loop
+same-length c = c .before .loop .inv .2
+
+returns : tie.Need-returns Inv-loop μ-loop
+returns c =
+    let s = c .before .before .before in
+    let l = c .before .loop in
+    let all : l .i ≡ s .args .n = omega arith in
+    subst (λ (n : ℕ). PutAs (now (s .args .text)) (s .args .at) (textsBelow (of s) n) (l .text) (l .end)) all (l .inv .0)
+
+pub put-lines-spec : {M : Type 1} → statement M
+put-lines-spec =
+    tie.close
+    (tie.spec
+    Inv-loop
+    μ-loop
+    loop-holds
+    mul-put-line
+    element-copy-out-put-line
+    mul-put-line-2
+    element-copy-out-put-line-2
+    mul-put-line-3
+    element-copy-out-put-line-3
+    put-line-requires
+    add-i
+    loop-less
+    loop-again
+    same-length
+    returns)

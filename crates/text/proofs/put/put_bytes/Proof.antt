@@ -1,0 +1,74 @@
+-- `put_bytes` meets its contract: the bytes so far are a piece. Assumes nothing.
+use native.Mathlib.Omega.{arith}
+use Prim.Native.Nat.{_≤_, _-_}
+use mathlib.Core.Path.{_≡_, refl, sym, ap, _∙_}
+use lib.ListN.{length, take}
+use lib.Seq.{take-all}
+use denote.Ref.{now}
+use Rattle.text.specs.Private.Putting.{withPiece}
+use Rattle.text.proofs.Laws.Putting.{withPiece-nil, withPiece-stored}
+use Rattle.text.proofs.put.put_bytes.Statement.{statement}
+use Rattle.text.proofs.put.put_bytes.Tie as tie
+
+abbrev Inv-loop : tie.InvT-loop
+Inv-loop text₀ at piece i₀ text i = (text ≡ withPiece text₀ at (take i piece)) × (i ≤ length piece) × (length text ≡ length text₀)
+
+abbrev μ-loop : tie.MeasureT-loop
+μ-loop text₀ at piece i₀ text i = length piece - i
+
+loop-holds : tie.Need-loop-holds Inv-loop μ-loop
+loop-holds c = (sym (withPiece-nil (now (c .args .text)) (c .args .at)), omega arith, refl)
+
+shared-slice-read-text : tie.Need-shared-slice-read-text Inv-loop μ-loop
+shared-slice-read-text c = omega arith
+
+add-text : tie.Need-add-text Inv-loop μ-loop
+add-text c = omega (arith, c .before .before .before .pre .enough)
+
+slice-write-text : tie.Need-slice-write-text Inv-loop μ-loop
+slice-write-text c = omega (arith, c .before .before .before .pre .enough)
+
+add-i : tie.Need-add-i Inv-loop μ-loop
+add-i c = omega arith
+
+loop-less : tie.Need-loop-less Inv-loop μ-loop
+loop-less c = omega arith
+
+loop-again : tie.Need-loop-again Inv-loop μ-loop
+loop-again c =
+    let s = c .before .before .before in
+    let l = c .before .before .loop in
+    let (e, n) = withPiece-stored (now (s .args .text)) (s .args .at) (now (s .args .piece)) (s .pre) (l .text) (l .i) (omega arith) (l .inv .0) in
+    (e, omega arith, n)
+
+add-result : tie.Need-add-result Inv-loop μ-loop
+add-result c = omega (arith, c .before .before .pre .enough)
+
+same-length : tie.Need-same-length Inv-loop μ-loop
+same-length c = c .before .loop .inv .2
+
+returns : tie.Need-returns Inv-loop μ-loop
+returns c =
+    let l = c .before .loop in
+    let all : l .i ≡ length (now (c .before .before .args .piece)) = omega arith in
+    record {
+      bytes = l .inv .0 ∙ ap (withPiece (now (c .before .before .args .text)) (c .before .before .args .at)) (take-all (l .i) (now (c .before .before .args .piece)) (omega arith));
+      next = omega arith;
+    }
+
+pub put-bytes-spec : {M : Type 1} → statement M
+put-bytes-spec =
+    tie.close
+    (tie.spec
+    Inv-loop
+    μ-loop
+    loop-holds
+    shared-slice-read-text
+    add-text
+    slice-write-text
+    add-i
+    loop-less
+    loop-again
+    add-result
+    same-length
+    returns)

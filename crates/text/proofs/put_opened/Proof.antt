@@ -1,0 +1,67 @@
+-- `put_opened` meets its contract: what is printed of the run of an accepted question, and of a refused one. Assumes nothing.
+use borrow.Author.Needs.{needs}
+use native.Mathlib.Omega.{arith}
+use denote.Ref.{now}
+use Rattle.text.proofs.Laws.Putting.{put-same}
+use Rattle.text.proofs.Laws.Answered.{opened-accepted, opened-length, opened-lines, opened-refused}
+use Rattle.text.proofs.put_opened.Statement.{statement}
+use Rattle.text.proofs.put_opened.Tie as tie
+
+open-requires : tie.Need-open-requires
+open-requires c κs = search needs
+
+enum-told : tie.Need-enum-told
+enum-told c = search needs
+
+put-run-requires : tie.Need-put-run-requires
+put-run-requires c κs =
+    let s = c .before .before .before .before .before .before .before in
+    let o = c .before .before .before .before .«open» in
+    let e = c .before .enum-told .given .1 in (
+      s .pre .0,
+      (
+        opened-lines (s .args .t) (s .pre .0) (now (s .args .question)) (o .result) (o .ensures) (s .args .allowance) e (omega arith),
+        record { enough = omega (arith, opened-length (s .args .t) (s .pre .0) (now (s .args .question)) (o .result) (o .ensures) (s .args .allowance) e (omega arith)) },
+      ),
+    )
+
+enum-known-answer : tie.Need-enum-known-answer
+enum-known-answer c = search needs
+
+put-refused-requires : tie.Need-put-refused-requires
+put-refused-requires c κs = search needs
+
+same-length : tie.Need-same-length
+same-length c = search needs
+
+returns : tie.Need-returns
+returns c =
+    let s = c .before .before .before .before .before .before .before .before .before .before in
+    let o = c .before .before .before .before .before .before .before .«open» in
+    put-same (opened-accepted (s .args .t) (s .pre .0) (now (s .args .question)) (o .result) (o .ensures) (s .args .allowance) (c .before .before .before .before .enum-told .given .1))
+    (c .before .before .put-run .ensures)
+
+same-length-2 : tie.Need-same-length-2
+same-length-2 c = search needs
+
+returns-2 : tie.Need-returns-2
+returns-2 c =
+    let s = c .before .before .before .before .before .before .before .before .before .before .before in
+    let o = c .before .before .before .before .before .before .before .before .«open» in
+    let a = c .before .before .before .before .before .answer .given in
+    put-same (opened-refused (s .args .t) (s .pre .0) (now (s .args .question)) (o .result) (o .ensures) (s .args .allowance) (a .0 .0) (a .1))
+    (c .before .before .put-refused .ensures)
+
+pub put-opened-spec : {M : Type 1} → statement M
+put-opened-spec =
+    tie.close
+    (tie.spec
+    open-requires
+    enum-told
+    put-run-requires
+    enum-known-answer
+    put-refused-requires
+    same-length
+    returns
+    same-length-2
+    returns-2)

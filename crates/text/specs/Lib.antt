@@ -1,0 +1,5 @@
+-- What `text` means: `Lent` says what becomes of the bytes lent, `listing` of the crate `search` which bytes are put there. `Private` has what only
+-- contracts of private functions cite.
+pub mod Deciding
+pub mod Lent
+pub mod Private

@@ -1,0 +1,39 @@
+-- Text put together from the left, piece by piece, in lent bytes. Assumes nothing.
+use Prim.Native.Nat.{ℕ, _+_, _≤_}
+use mathlib.Core.Path.{_≡_}
+use mathlib.Core.Bool.{cond}
+use mathlib.Core.List.{List, [], _++_, map, flatten}
+use lib.ListN.{length, getD, take, drop}
+use Rattle.sets.specs.Sets.{member, words}
+use Rattle.sets.specs.Lists.{below}
+use Rattle.search.specs.Order.{Line}
+use Rattle.search.specs.Listing.{lineText, decimal, bytesOf}
+
+-- the bytes with a piece over those from place `at` on
+unfoldable pub withPiece : List ℕ → ℕ → List ℕ → List ℕ
+withPiece text at piece = take at text ++ (piece ++ drop (at + length piece) text)
+
+-- there is room for a piece from place `at` on
+pub record HasRoom (text : List ℕ) (at : ℕ) (piece : List ℕ) : Type 0 where
+  pub enough : at + length piece ≤ length text
+
+-- what putting a piece leaves, and answers: the place after it
+pub record PutAs (before : List ℕ) (at : ℕ) (piece after : List ℕ) (r : ℕ) : Type 0 where
+  pub bytes : after ≡ withPiece before at piece
+  pub next : r ≡ at + length piece
+
+-- the texts of the numbers below n, one after another
+unfoldable pub textsBelow : (ℕ → List ℕ) → ℕ → List ℕ
+textsBelow text n = flatten (map text (below n))
+
+-- an atom after a blank, where it is in the set
+abbrev pub atomText : ℕ → ℕ → List ℕ
+atomText s a = cond (member a s) (bytesOf " " ++ decimal a) []
+
+-- the line at index i of the three arrays
+abbrev pub lineIn : List ℕ → List ℕ → List ℕ → ℕ → Line
+lineIn weights lows highs i = record { weight = getD weights i 0; chosen = words (getD lows i 0) (getD highs i 0) }
+
+-- the text of the first n lines of the arrays
+abbrev pub linesText : List ℕ → List ℕ → List ℕ → ℕ → List ℕ
+linesText weights lows highs n = textsBelow (λ i. lineText (lineIn weights lows highs i)) n
