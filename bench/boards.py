@@ -3,7 +3,8 @@
     python3 bench/boards.py FOLDER
 
 writes for every board `NAME.pha`, the board file, and `NAME.input`: a count
-byte, the asked atoms and an allowance of two bytes, low byte first.
+byte, the asked atoms and an allowance of two bytes, low byte first.  The board
+of dear steps is written into FOLDER/dear.
 
 A board is a spread over a ladder.  The spread is a few declarations of nearly
 equal weights, from which the first rules choose, so that some 500 partial
@@ -224,14 +225,43 @@ BOARDS = {make.__name__: make
           for make in (ladder, listed, forked, doubled, relay)}
 
 
-def main(folder):
-    folder = pathlib.Path(folder)
+def subsets(atoms):
+    return [list(some) for count in range(len(atoms) + 1)
+            for some in itertools.combinations(atoms, count)]
+
+
+def steep():
+    """Dear steps, again and again: for each of 252 choices of equal weight, 256
+    partial proofs have the same atom pending, which has all rules that are
+    left, 217, and differ in other atoms that most of its bodies have too.  So
+    what the rules give is mostly held: a step looks up 434 entries among some
+    500, and adds one or none."""
+    maker = Maker("steep")
+    dead = [maker.atom() for _ in range(8)]
+    atom = maker.atom()
+    below = [atom] + [maker.head(*subsets(some))
+                      for some in (dead[:3], dead[3:6], dead[6:])]
+    for size in (6, 6, 7):
+        choices = maker.declare([1] * size)
+        below = [maker.head(*([choice, *below] for choice in choices))]
+    bodies = [dead[:2] + some for some in subsets(dead[2:])]
+    while len(maker.rules) < 256:
+        maker.rule(atom, maker.random.choice(bodies))
+    return maker, below
+
+
+def write(folder, make):
     folder.mkdir(parents=True, exist_ok=True)
-    for name, make in BOARDS.items():
-        maker, question = make()
-        (folder / f"{name}.pha").write_bytes(maker.file())
-        (folder / f"{name}.input").write_bytes(
-            bytes([len(question)] + question) + LONGEST.to_bytes(2, "little"))
+    maker, question = make()
+    (folder / f"{make.__name__}.pha").write_bytes(maker.file())
+    (folder / f"{make.__name__}.input").write_bytes(
+        bytes([len(question)] + question) + LONGEST.to_bytes(2, "little"))
+
+
+def main(folder):
+    for make in BOARDS.values():
+        write(pathlib.Path(folder), make)
+    write(pathlib.Path(folder, "dear"), steep)
 
 
 if __name__ == "__main__":

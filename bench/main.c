@@ -1,6 +1,6 @@
 /* The benchmark: one question at a depth of 480 to 512 partial proofs, on each board named.
 
-     main BOARD...      where BOARD.pha is a board file and BOARD.input its question and allowance
+     main DEAR BOARD...     where BOARD.pha is a board file and BOARD.input its question and allowance; on DEAR a step takes longest
 
    Of every board first all answers are compared, after whole runs and after runs cut short; then the longest stretch of steps with 480
    entries held or more is timed, as one run. A time is the least of many, taken in turn. Compiled without OURS, the library is left out. */
@@ -12,6 +12,7 @@
 #include <time.h>
 
 enum { DEPTH = 480, TURNS = 60, SHORT_TURNS = 2000, ASKED = 8 };
+enum { DEAR_STEPS = 1000, DEAR_STRIDE = 250, DEAR_RUNS = 24, DEAR_TURNS = 5 };
 
 /* A board with its question, and the stretch that is timed. */
 typedef struct {
@@ -155,6 +156,11 @@ static double least_of(double a, double b)
     return a < b ? a : b;
 }
 
+static double most_of(double a, double b)
+{
+    return a > b ? a : b;
+}
+
 /* One run of each over the same steps, after one another, many times. */
 static times time_runs(const test *t, unsigned steps, unsigned turns)
 {
@@ -223,16 +229,42 @@ static void print_empty_run(test *t)
 #endif
 }
 
+/* Runs of 1,000 steps from every 250th step on, the first 24 of them: the dearest one, in microseconds a step, the run's own tests included. */
+static void print_dear(test *t)
+{
+    static search s;
+    times most = {0, 0, 0};
+    size_t entries = 0;
+    plain_open(&t->board, t->asked, t->count, &s);
+    for (unsigned n = 0; n < DEAR_RUNS; n++) {
+        t->from = s;
+        to_library(&t->from, &t->library_from);
+        times run = time_runs(t, DEAR_STEPS, DEAR_TURNS);
+        most.plain = most_of(most.plain, run.plain);
+        most.ordered = most_of(most.ordered, run.ordered);
+        most.ours = most_of(most.ours, run.ours);
+        plain_run(&t->board, &s, DEAR_STRIDE);
+        entries = s.entries > entries ? s.entries : entries;
+    }
+    printf("%-8s %5u rules, up to %zu entries: plain %.1f, ordered %.1f", t->name, t->board.rules, entries, most.plain * 1e6 / DEAR_STEPS,
+           most.ordered * 1e6 / DEAR_STEPS);
+#ifdef OURS
+    printf(", ours %.1f", most.ours * 1e6 / DEAR_STEPS);
+#endif
+    printf("\n");
+}
+
 int main(int count, char **names)
 {
     static const unsigned whole[] = {65535}, cut[] = {0, 1, 7, 250, 1, 1023, 4099};
-    unsigned tests = (unsigned)count - 1, fullest = 0;
+    static test dear;
+    unsigned tests = (unsigned)count - 2, fullest = 0;
     test *t = calloc(tests, sizeof *t);
     times all = {0, 0, 0};
     double steps = 0;
     printf("The boards, and that all answers are the same\n");
     for (unsigned i = 0; i < tests; i++) {
-        read_test(names[i + 1], &t[i]);
+        read_test(names[i + 2], &t[i]);
         compare_runs(&t[i], cut, sizeof cut / sizeof *cut);
         compare_runs(&t[i], whole, 1);
         find_stretch(&t[i]);
@@ -259,6 +291,10 @@ int main(int count, char **names)
 #endif
     printf("\nA run of allowance 0, which is all that a run does beside its steps\n");
     print_empty_run(&t[fullest]);
+    printf("\nThe board of dear steps, in microseconds a step, runs of %d steps\n", DEAR_STEPS);
+    read_test(names[1], &dear);
+    compare_runs(&dear, cut, sizeof cut / sizeof *cut);
+    print_dear(&dear);
 #ifdef OURS
     printf("\nStack of each entry point, in KiB\n");
     print_stacks(t[fullest].file, t[fullest].length, t[fullest].asked, t[fullest].count, &t[fullest].library_from);

@@ -13,18 +13,25 @@ typedef vilthomm_loading load_function(const uint8_t *, size_t);
 typedef vilthomm_opening open_function(vilthomm_table, const uint8_t *, size_t);
 typedef vilthomm_answer run_function(vilthomm_table, vilthomm_search, uint16_t);
 typedef vilthomm_share_answer share_function(vilthomm_table, vilthomm_search, size_t);
+typedef vilthomm_holds_answer yes_or_no_function(vilthomm_table, const uint8_t *, size_t, uint8_t);
+typedef vilthomm_total_answer total_function(vilthomm_table);
+typedef size_t listing_function(const uint8_t *, size_t, const uint8_t *, size_t, uint8_t *, size_t);
 
 /* What is handed to the calls, and what they are made of. */
 static struct {
     const uint8_t *file, *asked;
     size_t length, count;
-    vilthomm_table table;
+    uint8_t input[1 + VILTHOMM_MOST_ASKED + 2];
+    vilthomm_table table, ladder;
     vilthomm_search search;
     uint16_t allowance;
     load_function *load;
     open_function *open;
     run_function *run;
     share_function *share;
+    yes_or_no_function *yes_or_no;
+    total_function *total;
+    listing_function *listing;
 } call;
 
 static union {
@@ -32,7 +39,12 @@ static union {
     vilthomm_opening opening;
     vilthomm_answer answer;
     vilthomm_share_answer share;
+    vilthomm_holds_answer holds;
+    vilthomm_total_answer total;
+    size_t written;
 } result;
+
+static uint8_t text[VILTHOMM_TEXT_BYTES];
 
 static void *nothing(void *unused)
 {
@@ -63,6 +75,24 @@ static void *share(void *unused)
     return unused;
 }
 
+static void *yes_or_no(void *unused)
+{
+    result.holds = call.yes_or_no(call.ladder, NULL, 0, 127);
+    return unused;
+}
+
+static void *total(void *unused)
+{
+    result.total = call.total(call.table);
+    return unused;
+}
+
+static void *listing(void *unused)
+{
+    result.written = call.listing(call.file, call.length, call.input, sizeof call.input, text, sizeof text);
+    return unused;
+}
+
 static vilthomm_loading no_load(const uint8_t *file, size_t length)
 {
     (void)file, (void)length;
@@ -85,6 +115,39 @@ static vilthomm_share_answer no_share(vilthomm_table table, vilthomm_search sear
 {
     (void)table, (void)search, (void)line;
     return (vilthomm_share_answer){0};
+}
+
+static vilthomm_holds_answer no_yes_or_no(vilthomm_table table, const uint8_t *state, size_t count, uint8_t atom)
+{
+    (void)table, (void)state, (void)count, (void)atom;
+    return (vilthomm_holds_answer){0};
+}
+
+static vilthomm_total_answer no_total(vilthomm_table table)
+{
+    (void)table;
+    return (vilthomm_total_answer){0};
+}
+
+static size_t no_listing(const uint8_t *file, size_t length, const uint8_t *input, size_t input_length, uint8_t *to, size_t room)
+{
+    (void)file, (void)length, (void)input, (void)input_length, (void)to, (void)room;
+    return 0;
+}
+
+/* A board of 128 atoms, each but the first from the one below it: the atom tests stand as deep in each other as they can. */
+static vilthomm_table ladder(void)
+{
+    uint8_t file[2 + 127 * 10 + 1] = {1, 128};
+    memset(file + 2, 255, sizeof file - 2);
+    for (int atom = 1; atom < 128; atom++) {
+        uint8_t *rule = file + 2 + (atom - 1) * 10;
+        rule[0] = 3;
+        rule[1] = (uint8_t)atom;
+        rule[2] = (uint8_t)(atom - 1);
+    }
+    file[sizeof file - 1] = 4;
+    return vilthomm_load(file, sizeof file).table;
 }
 
 /* How much of a stack of its own a thread with this function writes. */
@@ -115,6 +178,9 @@ static void use_library(void)
     call.open = vilthomm_open;
     call.run = vilthomm_run;
     call.share = vilthomm_share;
+    call.yes_or_no = vilthomm_yes_or_no;
+    call.total = vilthomm_total;
+    call.listing = vilthomm_listing;
 }
 
 static void use_stand_ins(void)
@@ -123,6 +189,9 @@ static void use_stand_ins(void)
     call.open = no_open;
     call.run = no_run;
     call.share = no_share;
+    call.yes_or_no = no_yes_or_no;
+    call.total = no_total;
+    call.listing = no_listing;
 }
 
 static void print_stack(const char *name, void *function(void *))
@@ -132,7 +201,7 @@ static void print_stack(const char *name, void *function(void *))
     size_t handed = written(function);
     use_library();
     size_t whole = written(function);
-    printf("%-8s %7.1f   with what is handed over by value %7.1f   goal: under 256\n", name, (double)(whole - handed) / 1024,
+    printf("%-10s %7.1f   with what is handed over by value %7.1f   goal: under 256\n", name, (double)(whole - handed) / 1024,
            (double)(whole - none) / 1024);
 }
 
@@ -143,10 +212,17 @@ void print_stacks(const uint8_t *file, size_t length, const uint8_t *asked, size
     call.asked = asked;
     call.count = count;
     call.table = vilthomm_load(file, length).table;
+    call.ladder = ladder();
     call.search = *full;
     call.allowance = 1000;
+    memset(call.input, 0xff, sizeof call.input);
+    call.input[0] = (uint8_t)count;
+    memcpy(call.input + 1, asked, count);
     print_stack("load", load);
     print_stack("open", open_question);
     print_stack("run", run);
     print_stack("share", share);
+    print_stack("yes_or_no", yes_or_no);
+    print_stack("total", total);
+    print_stack("listing", listing);
 }

@@ -1,6 +1,7 @@
 -- What is handed on under C names, from what the entry points of the crates below promise. Assumes nothing.
+pub mod Endings
 use Prim.Native.Nat.{ℕ}
-use mathlib.Core.Path.{_≡_, refl, sym, ap, _∙_}
+use mathlib.Core.Path.{_≡_, refl, ap, _∙_}
 use Rattle.board.specs.Answers.{FileAnswer, accepted, refusedAt, Answer, granted, refused}
 use Rattle.board.specs.Board.{Board}
 use Rattle.board.specs.EntryPoints.{outcomeOf, loadedMeans, LoadsAs}

@@ -1,21 +1,30 @@
 // The entry points under C names, for `rt staticlib firmware`; `include/vilthomm.h` declares them. Each calls the entry point of a crate below and hands
-// on what it answers, an enum written as a number: 0 where nothing was refused (of a run 0 for done and 1 for more), else the refusal's number. In C a slice is two arguments, a pointer and a
-// length.
+// on what it answers, an enum written as a number: 0 where nothing was refused (of a run 0 for done and 1 for more), else the refusal's number. In C a slice
+// is two arguments, a pointer and a length.
 use asking::open;
 use asking::share;
 use board::Loaded;
 use board::Table;
+use board::Told;
+use board::facts::whole_weight;
+use files::accepted::is_table;
 use files::load::load;
+use holding::yes_or_no;
 use running::run;
 use search::Ending;
 use search::Opened;
 use search::Search;
 use search::Share;
+use text::listing;
 ghost use mathlib.Core.Path.{_≡_};
+ghost use mathlib.Core.Option.{some};
 ghost use Rattle.board.specs.Load.{load};
+ghost use Rattle.board.specs.EntryPoints.{yesOrNo};
 ghost use Rattle.search.specs.Search.{bench};
 ghost use Rattle.search.specs.EntryPoints.{openQuestion, runSearch, endingMeans, shareOf};
-ghost use Rattle.firmware.specs.Answers.{loadAnswer, openAnswer, endingNumber, runAnswer, shareAnswer};
+ghost use Rattle.search.specs.Listing.{listing};
+ghost use Rattle.text.specs.Lent.{LentAs};
+ghost use Rattle.firmware.specs.Answers.{loadAnswer, openAnswer, endingNumber, runAnswer, shareAnswer, holdsAnswer, totalOf, totalAnswer};
 
 // A table; or a refusal's number, its place in the file, and the table whose every field is zero.
 #[repr(C)]
@@ -47,6 +56,20 @@ pub struct RunAnswer {
 pub struct ShareAnswer {
     pub number: u64,
     pub thousandths: u64,
+}
+
+// 1 for yes and 0 for no; or a refusal's number, and 0.
+#[repr(C)]
+pub struct HoldsAnswer {
+    pub number: u64,
+    pub holds: u64,
+}
+
+// W; or a refusal's number, and 0.
+#[repr(C)]
+pub struct TotalAnswer {
+    pub number: u64,
+    pub total: u64,
 }
 
 // Loads a board file.
@@ -134,4 +157,52 @@ pub extern "C" fn vilthomm_share(table: Table, search: Search, line: usize) -> S
             thousandths: 0,
         },
     }
+}
+
+// Does the atom hold in the board state, one choice of each declaration in declaration order?
+#[no_mangle]
+pub extern "C" fn vilthomm_yes_or_no(table: Table, state: &[u8], atom: u8) -> HoldsAnswer
+    ensures { λ r. ⌜ r ≡ holdsAnswer (yesOrNo table (now (state .entry)) atom) ⌝ }
+{
+    match yes_or_no(table, state, atom) {
+        Told::Yes => HoldsAnswer {
+            number: 0,
+            holds: 1,
+        },
+        Told::No => HoldsAnswer {
+            number: 0,
+            holds: 0,
+        },
+        Told::Refused(number) => HoldsAnswer {
+            number: number as u64,
+            holds: 0,
+        },
+    }
+}
+
+// W of the table: what the weights of all its board states add up to.
+#[no_mangle]
+pub extern "C" fn vilthomm_total(table: Table) -> TotalAnswer
+    ensures { λ r. ⌜ r ≡ totalAnswer (totalOf table) ⌝ }
+{
+    if !is_table(table) {
+        return TotalAnswer {
+            number: 20,
+            total: 0,
+        };
+    }
+    TotalAnswer {
+        number: 0,
+        total: whole_weight(&table.declaration, &table.weight, table.hypotheses),
+    }
+}
+
+// Puts the listing for a board file and an input into `text`, which has room for every listing from 37,203 bytes on, and answers how many bytes it has. With
+// less room nothing is put there, and the answer is 0.
+#[no_mangle]
+pub extern "C" fn vilthomm_listing(file: &[u8], input: &[u8], text: &mut [u8]) -> usize
+    ensures { λ r.
+        ⌜ LentAs (listing (some (now (file .entry))) (now (input .entry))) (now (text .entry)) (now (text .exit)) r ⌝ }
+{
+    listing(file, input, text)
 }

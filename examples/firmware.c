@@ -1,0 +1,39 @@
+/* The 001 board, asked for atom 7: prints what the listing program prints. From the top of the repository, after `rt staticlib firmware`:
+     cc -std=c99 -Wall -Wextra examples/firmware.c target/staticlib/libfirmware.a -o target/example && target/example */
+#include "../include/vilthomm.h"
+#include <inttypes.h>
+#include <stdio.h>
+
+int main(void)
+{
+    uint8_t file[VILTHOMM_FILE_BYTES], asked[] = {7};
+    FILE *board = fopen("examples/001/board.pha", "rb");
+    size_t length = board ? fread(file, 1, sizeof file, board) : 0;
+    if (board)
+        fclose(board);
+    vilthomm_loading loading = vilthomm_load(file, length);
+    if (loading.number) {
+        printf("refused %" PRIu64 " at %zu\n", loading.number, loading.place);
+        return 1;
+    }
+    vilthomm_opening opening = vilthomm_open(loading.table, asked, sizeof asked);
+    if (opening.number) {
+        printf("refused %" PRIu64 "\n", opening.number);
+        return 1;
+    }
+    vilthomm_answer ran = vilthomm_run(loading.table, opening.search, 100);
+    printf("total %" PRIu64 "\n", vilthomm_total(loading.table).total);
+    for (size_t i = 0; i < ran.search.lines; i++) {
+        printf("%" PRIu64, ran.search.line_weight[i]);
+        for (int atom = 0; atom < VILTHOMM_MOST_ATOMS; atom++)
+            if ((atom < 64 ? ran.search.line_low[i] >> atom : ran.search.line_high[i] >> (atom - 64)) & 1)
+                printf(" %d", atom);
+        printf("\n");
+    }
+    printf("low %" PRIu64 " high %" PRIu64 " steps %" PRIu64, ran.low, ran.high, ran.steps);
+    if (ran.ending == VILTHOMM_DONE || ran.ending == VILTHOMM_MORE)
+        printf(ran.ending == VILTHOMM_DONE ? " done\n" : " more\n");
+    else
+        printf(" %" PRIu64 "\n", ran.ending);
+    return 0;
+}
