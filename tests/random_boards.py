@@ -12,6 +12,11 @@ def random_board(rng, most_sets=250):
     return sort(rng, most_sets)
 
 
+def random_bytes(rng, count):
+    return (rng.getrandbits(8 * count).to_bytes(count, "little") if count
+            else b"")
+
+
 def random_sizes(rng, most_sets, most=6):
     """Sizes of declarations, with not too many sets."""
     sizes, sets = [], 1

@@ -12,7 +12,8 @@ import enumerator as en
 from boards import file_of
 from checks.cases import LISTED_001
 from checks.tally import TESTS, section, typed
-from random_boards import mutated, random_board, random_question
+from random_boards import (mutated, random_board, random_bytes,
+                           random_question)
 
 LISTING_LINE = re.compile(
     rb"\A(refused [0-9]+( at [0-9]+)?\n"
@@ -56,11 +57,11 @@ def listing_random(tally):
             file = mutated(rng, file)
         answer = en.load(file)
         if rng.random() < 0.3 or answer.refusal:
-            keyed = rng.randbytes(rng.randrange(8))
+            keyed = random_bytes(rng, rng.randrange(8))
         else:
             keyed = typed(random_question(rng, answer.table),
                           rng.choice((0, 1, 5, 30, 300, 65535)))
-            keyed += rng.randbytes(rng.randrange(3))
+            keyed += random_bytes(rng, rng.randrange(3))
         out = en.listing(file, keyed)
         tally.true("listing %d has the stated form" % number,
                    LISTING_LINE.match(out))
@@ -109,7 +110,7 @@ def command_line(tally):
         tally.same("load", called(
             ["load", "board.pha", "cut.pha", "none.pha"], b"", folder),
             b"accepted 100\nrefused 1 at 32\nrefused 1 at 0\n")
-    # The README's command, on the example that ships with the project.
+    # The command on the example that ships with the project.
     example = os.path.join(os.path.dirname(TESTS), "examples", "001")
     with open(os.path.join(example, "input"), "rb") as handle:
         tally.same("listing of examples/001", called(

@@ -6,7 +6,7 @@ import enumerator as en
 from boards import accepted_files, board_with_rules, file_of
 from checks.tally import section
 from malformed import malformed_files
-from random_boards import mutated, random_board, records_of
+from random_boards import mutated, random_board, random_bytes, records_of
 
 
 def hold_load(tally, what, file, rng):
@@ -28,7 +28,8 @@ def hold_accepted(tally, what, file, answer, rng):
                1 <= en.whole_weight(answer.table) <= 10 ** 15)
     cut = rng.randrange(len(file))
     tally.same(what + ": cut short", en.load(file[:cut]).refusal, 1)
-    tail = bytes([rng.randrange(256)]) + rng.randbytes(rng.randrange(3))
+    tail = bytes([rng.randrange(256)]) + random_bytes(
+        rng, rng.randrange(3))
     tally.same(what + ": byte after the end",
                en.load(file + tail)[:2], (3, len(file)))
 
@@ -49,7 +50,7 @@ def hold_refused(tally, what, file, answer, rng):
     kept = answer.place + 1
     if answer.refusal > 3:
         kept += en.BODY_BYTES[file[answer.place]]
-    other = file[:kept] + rng.randbytes(rng.randrange(12))
+    other = file[:kept] + random_bytes(rng, rng.randrange(12))
     tally.same(what + ": first failing record decides",
                en.load(other), answer)
 

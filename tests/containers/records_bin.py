@@ -12,6 +12,7 @@ from typing import NamedTuple
 import boards
 import enumerator as en
 from containers.common import FAR, refused
+from random_boards import random_bytes
 
 TAIL = (4,)
 MOST = 120_000              # it has fewer bytes than this
@@ -127,7 +128,7 @@ def random_records():
     other half a kind.  Some places are past the end."""
     rng = random.Random(20260107)
     for number in range(1, 161):
-        file = bytearray(rng.randbytes(rng.randrange(40)))
+        file = bytearray(random_bytes(rng, rng.randrange(40)))
         place = rng.randrange(len(file) + 1)
         if rng.random() < 0.5 and place < len(file):
             file[place] = rng.choice((1, 2, 2, 3, 3, 3, 4))
