@@ -10,6 +10,37 @@ LISTED_001 = (b"total 100\n42 1 2\n18 0 2\n9 0 3\n3 0 4\n"
               b"low 72 high 72 steps 23 done\n")
 
 
+def documented_listings():
+    """C1 to C10: file, input and the text that document 01 has, or that it
+    leaves no choice about."""
+    whole = 10 ** 15
+    sure = b"total %d\n%d 0\nlow %d high %d steps 2 done\n" % ((whole,) * 4)
+    totals = boards.board_with_totals
+    for name, board, atom, allowance, text in (
+            ("C1", boards.BOARD_001, 7, 100, LISTED_001),
+            ("C2", boards.BOARD_001, 7, 16,
+             b"total 100\n42 1 2\nlow 42 high 100 steps 16 more\n"),
+            ("C3", boards.BOARD_001, 7, 19,
+             b"total 100\n42 1 2\n18 0 2\nlow 60 high 89 steps 19 more\n"),
+            ("C4", boards.BOARD_001, 7, 21,
+             b"total 100\n42 1 2\n18 0 2\nlow 60 high 72 steps 21 more\n"),
+            ("C5", boards.BOARD_001, 7, 0,
+             b"total 100\nlow 0 high 100 steps 0 more\n"),
+            ("C7", totals([1000] * 5), 0, 100, sure),
+            # The end record follows a count and six hypotheses.
+            ("C7, one more of 2", totals([1000] * 5 + [2]), 0, 100,
+             b"refused 8 at 38\n"),
+            ("C7, one more of 1", totals([1000] * 5 + [1]), 0, 100, sure),
+            ("C8", boards.BOARD_C8, 4, 100,
+             b"total 4\n2 0\nlow 2 high 4 steps 4 32\n"),
+            ("C9", boards.BOARD_C9, 0, 100,
+             b"total 1\n1\nlow 1 high 1 steps 2 done\n"),
+            ("C10", boards.BOARD_C10, 0, 100,
+             b"total 1\nlow 0 high 0 steps 1 done\n")):
+        yield name, file_of(board), typed((atom,), allowance), text
+    yield "C6", b"", typed((7,), 100), b"refused 1 at 0\n"
+
+
 @section("board cases C1 to C11")
 def board_cases(tally):
     file = file_of(boards.BOARD_001)
@@ -36,20 +67,8 @@ def board_cases(tally):
         tally.same(name, run_for(loaded(board), (atom,), 100)[1:], wanted)
     tally.same("C8, true weight",
                en.true_weight(loaded(boards.BOARD_C8), (4,)), 3)
-    for name, board, atom, allowance, wanted in (
-            ("C1", boards.BOARD_001, 7, 100, LISTED_001),
-            ("C2", boards.BOARD_001, 7, 16,
-             b"total 100\n42 1 2\nlow 42 high 100 steps 16 more\n"),
-            ("C5", boards.BOARD_001, 7, 0,
-             b"total 100\nlow 0 high 100 steps 0 more\n"),
-            ("C8", boards.BOARD_C8, 4, 100,
-             b"total 4\n2 0\nlow 2 high 4 steps 4 32\n"),
-            ("C9", boards.BOARD_C9, 0, 100,
-             b"total 1\n1\nlow 1 high 1 steps 2 done\n"),
-            ("C10", boards.BOARD_C10, 0, 100,
-             b"total 1\nlow 0 high 0 steps 1 done\n")):
-        tally.same(name + " listed", en.listing(
-            file_of(board), typed((atom,), allowance)), wanted)
+    for name, file, keyed, wanted in documented_listings():
+        tally.same(name + " listed", en.listing(file, keyed), wanted)
     search = run_for(table, (7,), 100).search
     tally.same("C11", en.share(table, search, 1), (0, 583))
     tally.same("share of line 4", en.share(table, search, 4), (0, 41))

@@ -10,7 +10,7 @@ from typing import NamedTuple
 import boards
 import enumerator as en
 from boards import file_of
-from checks.cases import LISTED_001
+from checks.cases import LISTED_001, documented_listings
 from checks.tally import loaded, run_for, typed
 from containers.boards_bin import cut_files, struck_files
 from malformed import malformed_files
@@ -29,34 +29,9 @@ FILE_001 = file_of(boards.BOARD_001)
 
 
 def documented():
-    """C1 to C10: the text that document 01 has, or that it leaves no choice
-    about."""
-    whole = 10 ** 15
-    sure = b"total %d\n%d 0\nlow %d high %d steps 2 done\n" % ((whole,) * 4)
-    totals = boards.board_with_totals
-    for name, board, atom, allowance, text in (
-            ("C1", boards.BOARD_001, 7, 100, LISTED_001),
-            ("C2", boards.BOARD_001, 7, 16,
-             b"total 100\n42 1 2\nlow 42 high 100 steps 16 more\n"),
-            ("C3", boards.BOARD_001, 7, 19,
-             b"total 100\n42 1 2\n18 0 2\nlow 60 high 89 steps 19 more\n"),
-            ("C4", boards.BOARD_001, 7, 21,
-             b"total 100\n42 1 2\n18 0 2\nlow 60 high 72 steps 21 more\n"),
-            ("C5", boards.BOARD_001, 7, 0,
-             b"total 100\nlow 0 high 100 steps 0 more\n"),
-            ("C7", totals([1000] * 5), 0, 100, sure),
-            # The end record follows a count and six hypotheses.
-            ("C7, one more of 2", totals([1000] * 5 + [2]), 0, 100,
-             b"refused 8 at 38\n"),
-            ("C7, one more of 1", totals([1000] * 5 + [1]), 0, 100, sure),
-            ("C8", boards.BOARD_C8, 4, 100,
-             b"total 4\n2 0\nlow 2 high 4 steps 4 32\n"),
-            ("C9", boards.BOARD_C9, 0, 100,
-             b"total 1\n1\nlow 1 high 1 steps 2 done\n"),
-            ("C10", boards.BOARD_C10, 0, 100,
-             b"total 1\nlow 0 high 0 steps 1 done\n")):
-        yield Case(name, file_of(board), typed((atom,), allowance), text)
-    yield Case("C6", b"", typed((7,), 100), b"refused 1 at 0\n")
+    """C1 to C10, with the text of each."""
+    for name, file, keyed, text in documented_listings():
+        yield Case(name, file, keyed, text)
 
 
 def refused_files():
