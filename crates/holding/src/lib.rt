@@ -5,9 +5,7 @@
 // The counts of basic steps below are for r rules, n hypotheses and a state of d atoms.
 use board::Table;
 use board::Told;
-use board::facts::Index;
 use board::facts::declarations_of;
-use board::walks::first_index;
 use board::walks::wide;
 use files::accepted::is_table;
 ghost use mathlib.Core.Path.{_≡_};
@@ -25,11 +23,14 @@ ghost use Rattle.holding.specs.Private.Remembered.{hypothesesAlone, lent
 fn is_among(bytes: &[u8], x: u8) -> bool
     ensures { λ r. ⌜ r ≡ among (now (bytes .entry)) x ⌝ }
 {
-    if let Index::At(_) = first_index(bytes, bytes.len(), x) {
-        true
-    } else {
-        false
+    let mut i = 0;
+    while i < bytes.len() {
+        if bytes[i] == x {
+            return true;
+        }
+        i += 1;
     }
+    false
 }
 
 // "An atom holds in a board state if it is chosen or if one of its rules holds." What is found is kept in `known`, a mark an atom: 1 it holds,
