@@ -12,7 +12,7 @@ use lib.ListN.{length, getD}
 use Rattle.sets.specs.Lists.{any, keep, isEmpty, ascending}
 use Rattle.board.specs.Sizes.{mostAtoms, mostDeclarations, mostHypotheses, mostRules, mostW, emptyPlace}
 use Rattle.board.specs.Board.{Board, declarationsIn, declaration, isHypothesis, W}
-use Rattle.board.specs.File.{Record, count, hypothesis, rule, finish, knownKind, readRecord}
+use Rattle.board.specs.File.{Record, Found, count, hypothesis, rule, finish, knownKind, readRecord}
 use Rattle.board.specs.Answers.{FileAnswer, accepted, refusedAt}
 
 -- the board before the first record
@@ -94,26 +94,25 @@ isFinish finish = true
 unfoldable pub atTheEnd : List ℕ → ℕ → Board → FileAnswer Board
 atTheEnd file next b = cond (ltb next (length file)) (refusedAt 3 next) (accepted b)
 
+-- an accepted answer leads on, a refusal stands: "The first failing record decides."
+unfoldable pub passing : {A B : Type 0} → FileAnswer A → (A → FileAnswer B) → FileAnswer B
+passing (accepted x) next = next x
+passing (refusedAt number place) next = refusedAt number place
+
+-- the record at a place, if it passes: "no byte left, 1; unknown kind, 2; wrong place, 3; body too short, 1; then the field checks"
+unfoldable pub checked : List ℕ → ℕ → Board → FileAnswer Found
+checked file at b =
+    cond (misplacedAt file at b) (refusedAt 3 at)
+    (passing (readRecord file at) (λ r.
+    let number = firstFailing (fieldChecks b (r .found)) in
+    cond (eqb number 0) (accepted r) (refusedAt number at)))
+
 -- loading from a place on, over at most n records
 unfoldable pub loadFrom : ℕ → List ℕ → ℕ → Board → FileAnswer Board
 loadFrom zero file at b = refusedAt 1 (length file)
 loadFrom (suc n) file at b =
-    elim (misplacedAt file at b) [
-      | true ↦ refusedAt 3 at
-      | false ↦
-          elim (readRecord file at) [
-            | refusedAt number place ↦ refusedAt number place
-            | accepted r ↦
-                elim (firstFailing (fieldChecks b (r .found))) [
-                  | zero ↦
-                      elim (isFinish (r .found)) [
-                        | true ↦ atTheEnd file (r .next) b
-                        | false ↦ loadFrom n file (r .next) (taking b (r .found))
-                      ]
-                  | suc number ↦ refusedAt (suc number) at
-                ]
-          ]
-    ]
+    passing (checked file at b) (λ r.
+    cond (isFinish (r .found)) (atTheEnd file (r .next) b) (loadFrom n file (r .next) (taking b (r .found))))
 
 -- A record takes a byte at least, so a file has no more records than bytes
 unfoldable pub load : List ℕ → FileAnswer Board
