@@ -8,4 +8,5 @@ pub mod Filled
 pub mod Holds
 pub mod Lent
 pub mod Load
+pub mod Rules
 pub mod Table

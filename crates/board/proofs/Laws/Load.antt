@@ -4,6 +4,7 @@ pub mod Deciding
 pub mod Each
 pub mod Hypotheses
 pub mod Loaded
+pub mod Numbers
 pub mod Passes
 pub mod Reading
 pub mod Room
