@@ -19,7 +19,7 @@ use Rattle.search.specs.EntryPoints.{RunAnswer, runSearch}
 use Rattle.search.specs.Listing.{bytesOf, decimal, atomsText, lineText, endingText, lastText, ranText, refusedText, refusedFileText}
 use Rattle.search.proofs.Laws.Explanations.Choices.{choice-one, choice-size}
 use Rattle.search.proofs.Laws.Ends.{low-le-W, high-le-W}
-use Rattle.search.proofs.Laws.Search.Runs.{Stops, ComesTo, run-comes, run-steps}
+use Rattle.search.proofs.Laws.Search.Runs.{Stops, ComesTo, run-comes, run-steps, run-stops}
 use Rattle.search.proofs.Laws.Store.{Formed, searchOf-storedOf}
 use Rattle.search.proofs.Laws.Store.Fits.{entry-choice, entry-weight, fits-line}
 use Rattle.search.proofs.Laws.Store.Steps.{step-formed}
@@ -85,7 +85,7 @@ module _ (b : Board) (k : Accepted b) (s : Search) (formed : Formed bench b s) (
   abbrev answer : RunAnswer
   answer = answered b ran
 
-  comes : ComesTo (Formed bench b) s ran
+  comes : ComesTo bench b (Formed bench b) s ran
   comes = run-comes bench b (Formed bench b) (λ e rest lines f. step-formed bench b k e rest lines f) allowance s formed
 
   -- the lines of the search that it leaves
@@ -116,7 +116,7 @@ module _ (b : Board) (k : Accepted b) (s : Search) (formed : Formed bench b s) (
         flatten-length lineText 145 (ran .search .lines) each-line,
         comes .kept .roomForLines,
         last-length answer (omega (arith, low-le-W b k (ran .search) (comes .kept .fits), k .weight)) (omega (arith, high-le-W b (ran .search), k .weight))
-            (omega (arith, run-steps bench b allowance s, most)) (comes .refusal),
+            (omega (arith, run-steps bench b allowance s, most)) (run-stops bench b allowance s),
       )
 
   -- the text of a run of a search that is well formed has room
