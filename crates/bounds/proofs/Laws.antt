@@ -1,4 +1,5 @@
 pub mod Cases
 pub mod Demand3
 pub mod Driver
+pub mod Overlap
 pub mod Runs

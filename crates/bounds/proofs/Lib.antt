@@ -4,4 +4,5 @@ pub mod Step
 pub mod Consequences
 pub mod Sequence
 pub mod Demand3
+pub mod Overlap
 pub mod Laws
