@@ -5,3 +5,4 @@ pub mod Length
 pub mod Lent
 pub mod Putting
 pub mod Texts
+pub mod Right

@@ -29,16 +29,30 @@ ghost use Rattle.board.specs.Table.{boardOf, isTable};
 ghost use Rattle.search.specs.EntryPoints.{openQuestion, endingMeans, runSearch};
 ghost use Rattle.search.specs.Search.{bench, roomLines};
 ghost use Rattle.search.specs.Listing.{bytesOf, endingText, endsText, ranText, refusedText, refusedFileText, openedText, askedText, listing};
+ghost use Rattle.text.specs.Deciding.{fileBytes, inputBytes};
 ghost use Rattle.text.specs.Lent.{mostText, LentAs};
 ghost use Rattle.text.specs.Private.Putting.{HasRoom, PutAs};
 
 // How many bytes have room for every listing (`mostText`).
 pub const TEXT_BYTES: usize = 37203;
 
-// How many bytes of a file and of an input decide what is printed (`fileBytes`, `inputBytes`; `listing-decided`).
+// How many bytes of a file and of an input decide what is printed (`listing-decided`): that these are the law's numbers is what `file_bytes` and
+// `input_bytes` ensure. As constants they are for the lengths of arrays.
 pub const FILE_BYTES: usize = 3334;
 
 pub const INPUT_BYTES: usize = 11;
+
+pub fn file_bytes() -> usize
+    ensures { λ r. ⌜ r ≡ fileBytes ⌝ }
+{
+    FILE_BYTES
+}
+
+pub fn input_bytes() -> usize
+    ensures { λ r. ⌜ r ≡ inputBytes ⌝ }
+{
+    INPUT_BYTES
+}
 
 // A byte in two bytes' room. 1 basic step.
 fn wide16(x: u8) -> u16
