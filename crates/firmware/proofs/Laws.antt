@@ -1,5 +1,7 @@
 -- What is handed on under C names, from what the entry points of the crates below promise. Assumes nothing.
 pub mod Endings
+pub mod Numbers
+pub mod Sequence
 use Prim.Native.Nat.{ℕ}
 use mathlib.Core.Path.{_≡_, refl, ap, _∙_}
 use Rattle.board.specs.Answers.{FileAnswer, accepted, refusedAt, Answer, granted, refused}

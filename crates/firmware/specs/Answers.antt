@@ -46,8 +46,8 @@ openAnswer answer = record { number = numberOf answer; search = openedSearch ans
 
 -- ---- the run
 
--- "The answer is done if the store is empty, the refusal if one stopped it, else more." No refusal of a run has the number 0 or 1 (`number-done`,
--- `number-more` in proofs/Laws/Endings).
+-- "The answer is done if the store is empty, the refusal if one stopped it, else more." No refusal of a run has the number 0 or 1 (`run-read` in
+-- proofs/Laws/Endings).
 unfoldable pub endingNumber : Ending → ℕ
 endingNumber done = 0
 endingNumber more = 1
