@@ -3,17 +3,23 @@
 01, one by one in the place of the right one, and the first item that then
 prints something else.
 
-    python3 telling.py                    all wrong readings, some minutes
+    python3 telling.py                    all wrong readings, a minute
     python3 telling.py WORD...            those whose names have one of the
                                           words
     python3 telling.py --count [WORD...]  how many items of each container
                                           print something else; slow
 
-Exit status 1 if one changes nothing.
+Items of few steps are looked at first.  RT_JOBS readings are tried at a time,
+or as many as the machine has processors, at most 4.  Exit status 1 if one
+changes nothing, or if the right one, which is tried too, changes something.
 """
 
+import multiprocessing
+import os
+import re
 import sys
 import time
+from functools import lru_cache, partial
 
 sys.dont_write_bytecode = True
 
@@ -21,8 +27,27 @@ from containers import acts, fields                             # noqa: E402
 from searching import PROGRAM                                   # noqa: E402
 from wrong_readings import RIGHT_RUN, readings                  # noqa: E402
 
+RIGHT = "none: the right reading"
 
-def items_told(patches, right):
+
+def steps_in(lines):
+    """How many steps the runs of an item take."""
+    return sum(int(steps) for line in lines
+               for steps in re.findall(r" steps (\d+) ", line))
+
+
+@lru_cache(maxsize=None)
+def items():
+    """All items, each with its container's name and its right lines, those of
+    few steps first."""
+    right = PROGRAM.lines_of()
+    return sorted(((name.partition(".")[0], item, lines)
+                   for name, container in PROGRAM.containers.items()
+                   for item, lines in zip(container.items(), right[name])),
+                  key=lambda found: steps_in(found[2]))
+
+
+def items_told(patches):
     """The containers' names, each with an item that prints something else
     under a wrong reading."""
     before = [(module, name, getattr(module, name))
@@ -32,10 +57,9 @@ def items_told(patches, right):
     for module, name, wrong in patches:
         setattr(module, name, wrong)
     try:
-        for name, container in PROGRAM.containers.items():
-            for item, lines in zip(container.items(), right[name]):
-                if printed(item) != lines:
-                    yield name.partition(".")[0], item.name
+        for container, item, lines in items():
+            if printed(item) != lines:
+                yield container, item.name
     finally:
         for module, name, was in before:
             setattr(module, name, was)
@@ -51,10 +75,10 @@ def printed(item):
         return None
 
 
-def told_by(patches, right, count):
+def told_by(patches, count):
     """The first item that tells, or how many of each container do; empty if
     none does."""
-    told = items_told(patches, right)
+    told = items_told(patches)
     if not count:
         first = next(told, None)
         told.close()
@@ -65,20 +89,29 @@ def told_by(patches, right, count):
     return ", ".join("%s %d" % one for one in found.items())
 
 
+def tried(count, name):
+    """What tells the reading of that name, and how long it took."""
+    began = time.time()
+    return told_by(dict(readings()).get(name, []), count), time.time() - began
+
+
 def main(words):
     count = words[:1] == ["--count"]
     words = words[count:]
-    right = PROGRAM.lines_of()
-    told_all = True
-    for name, patches in readings():
-        if words and not any(word in name for word in words):
-            continue
-        began = time.time()
-        told = told_by(patches, right, count)
-        told_all = told_all and bool(told)
-        print("%-58s %-70s %3.0f s" % (name, told or "NOT TOLD",
-                                       time.time() - began), flush=True)
-    return 0 if told_all else 1
+    names = [RIGHT] + [name for name, _ in readings()
+                       if not words or any(word in name for word in words)]
+    jobs = int(os.environ.get("RT_JOBS") or min(os.cpu_count() or 1, 4))
+    items()                     # so that the processes have them
+    failures = 0
+    with multiprocessing.get_context("fork").Pool(jobs) as pool:
+        for name, (told, took) in zip(names, pool.imap(partial(tried, count),
+                                                       names)):
+            failures += bool(told) == (name == RIGHT)
+            print("%-58s %-70s %3.0f s" % (name, told or "NOT TOLD", took),
+                  flush=True)
+    print("telling: %d wrong readings, %d failures" % (len(names) - 1,
+                                                       failures))
+    return 1 if failures or len(names) == 1 else 0
 
 
 if __name__ == "__main__":
