@@ -6,7 +6,7 @@ import sys
 
 from checks.cases import LISTED_001
 from checks.examples import asker
-from checks.project import ROOT, command, listed, stored, words
+from checks.project import ROOT, building, command, listed, stored, words
 from checks.tally import section
 
 COMMAND = os.path.join(ROOT, "vilthomm")
@@ -51,15 +51,23 @@ def command_refusals(tally):
 
 @section("the command: what the listing is made of")
 def command_sources(tally):
-    tally.same("a crate alone", command.crates_of("sets"), {"sets"})
-    tally.same("a library", command.crates_of("holding"),
+    tally.same("a crate alone", building.crates_of("sets"), {"sets"})
+    tally.same("a library", building.crates_of("holding"),
                {"holding", "files", "board", "sets"})
     tally.same("a program, with crates of the toolchain",
-               command.crates_of("loading"), {
+               building.crates_of("loading"), {
                    "loading", "files", "holding", "board", "sets", "io",
                    "libc", "os"})
-    tally.true("crates.txt", os.path.join(ROOT, "crates.txt")
-               in list(command.sources()))
+    sources = list(building.sources())
+    for path, wanted in (
+            (("sets", "src", "lib.rt"), True),
+            (("listing", "src", "main.rt"), True),
+            (("search", "specs", "Order.antt"), True),
+            (("search", "proofs", "Laws", "Order.antt"), True),
+            (("listing", "stdout"), False),
+            (("holding", "src", "lib.rt"), False)):
+        tally.same("a source: " + "/".join(path), os.path.join(
+            ROOT, "crates", *path) in sources, wanted)
     for path, name in (("examples/001/board.pha", "001"),
                        ("examples/amplifier/mended.pha", "amplifier/mended"),
                        ("mended.pha", "mended"), ("/board.pha", "board")):

@@ -13,6 +13,7 @@ ROOT = os.path.dirname(TESTS)
 
 sys.path.append(os.path.join(ROOT, "tools"))
 
+import building  # noqa: E402,F401
 import history  # noqa: E402,F401
 import listed  # noqa: E402,F401
 import plot  # noqa: E402,F401
