@@ -62,6 +62,9 @@
 extern "C" {
 #endif
 
+/* Which library and command this is; CHANGELOG.md says what each version is. */
+#define VILTHOMM_VERSION "0.1"
+
 /* ---- sizes */
 
 enum {

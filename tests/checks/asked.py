@@ -39,11 +39,14 @@ def path_with(rt=None):
 
 
 def called(folder, path, *arguments, **given):
-    """Status, output and what is said, of the command in a folder."""
+    """Status, output and what is said, of the command in a folder; Python's
+    own variables, which change how it writes, are not handed on."""
     given.setdefault("stdout", subprocess.PIPE)
+    kept = {name: value for name, value in os.environ.items()
+            if not name.startswith("PYTHON")}
     done = subprocess.run(
         [os.path.join(folder, "vilthomm"), *arguments], cwd=folder,
-        env={**os.environ, "PATH": path}, stdin=subprocess.DEVNULL,
+        env={**kept, "PATH": path}, stdin=subprocess.DEVNULL,
         stderr=subprocess.PIPE, timeout=LONGEST, check=False, **given)
     return done.returncode, done.stdout, done.stderr.decode("utf-8")
 
@@ -60,6 +63,7 @@ def questions(tally):
         hold_refused(tally, path)
         hold_picture(tally, path)
         hold_no_room(tally, path)
+        hold_closed(tally, path)
     tally.same("the listing's time", os.stat(command.LISTING).st_mtime_ns,
                before)
 
@@ -133,3 +137,33 @@ def hold_no_room(tally, path):
     tally.same("no temporary folder", (status, printed), (2, b""))
     tally.true("no temporary folder: " + said, said.count("\n") == 1
                and said.startswith("vilthomm: cannot go on: No usable temp"))
+
+
+def without(*numbers):
+    """What closes these streams in a call."""
+    return lambda: [os.close(number) for number in numbers]
+
+
+def hold_closed(tally, path):
+    """A closed standard output is told in one line, and nothing is said where
+    standard error is closed or takes nothing; the answer is the same."""
+    for arguments in ((BOARD, "7"), ("plot", BOARD, "7"), ("--help",),
+                      ("--version",)):
+        tally.same("closed output: %r" % (arguments,), called(
+            ROOT, path, *arguments, preexec_fn=without(1)),
+            (2, b"", "vilthomm: the answer goes to standard output, and that "
+             "is closed\n"))
+        tally.same("all closed: %r" % (arguments,), called(
+            ROOT, path, *arguments, preexec_fn=without(0, 1, 2)),
+            (2, b"", ""))
+    for arguments, wanted in (((BOARD, "7"), (0, LISTED_001)),
+                              ((BOARD, "8"), (1, b"refused 22\n")),
+                              ((BOARD, "x"), (2, b""))):
+        for numbers in ((2,), (0, 2)):
+            tally.same("closed: %r, %r" % (numbers, arguments), called(
+                ROOT, path, *arguments, preexec_fn=without(*numbers)),
+                (*wanted, ""))
+        with open("/dev/full", "wb") as full:
+            tally.same("no room for what is said: %r" % (arguments,), called(
+                ROOT, path, *arguments,
+                preexec_fn=lambda: os.dup2(full.fileno(), 2)), (*wanted, ""))

@@ -1,12 +1,14 @@
 """The command: what it says to its arguments, and what it says of listings."""
 
 import os
+import re
 import subprocess
 import sys
 
 from checks.cases import LISTED_001
 from checks.examples import asker
-from checks.project import ROOT, building, command, listed, stored, words
+from checks.project import (ROOT, building, command, listed, page_of, stored,
+                            words)
 from checks.tally import section
 
 COMMAND = os.path.join(ROOT, "vilthomm")
@@ -30,6 +32,14 @@ def command_refusals(tally):
             ([board, "7", "--steps=many"], "not 'many'"),
             ([board, "7", "--step", "5"], "no option '--step'"),
             (["none.pha", "7"], "there is no file none.pha"),
+            (["plot", "none.pha", "7"], "there is no file none.pha"),
+            (["polt", board, "7"], "there is no command and no board file "
+             "'polt'; did you mean 'plot'?"),
+            (["Plot", board, "7"], "did you mean 'plot'?"),
+            (["plto"], "did you mean 'plot'?"),
+            (["list", board, "7"], "there is no command and no board file "
+             "'list'; see ./vilthomm --help"),
+            (["plot.pha", "7"], "there is no file plot.pha"),
             (["examples", "7"], "examples is a folder"),
             ([board + "/none", "7"],
              "vilthomm: %s/none cannot be read: Not a directory\n" % board)):
@@ -47,6 +57,16 @@ def command_refusals(tally):
                           stdout=subprocess.PIPE, timeout=20, check=False)
     tally.same("--help: status", done.returncode, 0)
     tally.true("--help: an example", b"Example: " in done.stdout)
+
+
+@section("the command: its version")
+def command_version(tally):
+    done = subprocess.run([sys.executable, COMMAND, "--version"], cwd=ROOT,
+                          stdout=subprocess.PIPE, timeout=20, check=False)
+    number = re.search(r"^## (\S+)", page_of("CHANGELOG.md"), re.MULTILINE)
+    tally.same("--version: the newest of CHANGELOG.md",
+               (done.returncode, done.stdout.decode("ascii")),
+               (0, "vilthomm %s\n" % number.group(1)))
 
 
 @section("the command: what the listing is made of")
