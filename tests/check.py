@@ -21,7 +21,7 @@ from checks.tally import SECTIONS, Tally  # noqa: E402
 from checks import asked, carried, cases, command, demand3  # noqa: E402,F401
 from checks import examples, listings, loads, program  # noqa: E402,F401
 from checks import firmware, picture, searches, stored  # noqa: E402,F401
-from checks import making  # noqa: E402,F401
+from checks import format_page, making  # noqa: E402,F401
 
 
 def main():

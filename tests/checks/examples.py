@@ -32,12 +32,18 @@ def example_files(tally):
                (0, ""))
 
 
+def shown_in(block):
+    """The arguments of the command that a block shows, and the lines that it
+    prints and says; None if it shows no command."""
+    first, *rest = block.splitlines(keepends=True)
+    if first.startswith("$ ./vilthomm "):
+        return first.split()[2:], rest
+    return None
+
+
 def shown_commands(page):
     """The commands that a page shows with what they print, and that."""
-    for fence in FENCE.findall(page):
-        first, *rest = fence.splitlines(keepends=True)
-        if first.startswith("$ ./vilthomm "):
-            yield first.split()[2:], rest
+    return filter(None, map(shown_in, FENCE.findall(page)))
 
 
 def question_in(arguments):
