@@ -1,27 +1,33 @@
 /* The 001 board, asked for atom 7: prints what the listing program prints. From the top of the repository, after `rt staticlib firmware`:
-     cc -std=c99 -Wall -Wextra examples/firmware.c target/staticlib/libfirmware.a -o target/example && target/example */
+     cc -std=c99 -Wall -Wextra examples/firmware.c target/staticlib/libfirmware.a -o target/example && target/example
+   The structs are static, so that the stack has to hold only what the calls need (docs/FIRMWARE.md, "Stack and memory"). */
 #include "../include/vilthomm.h"
 #include <inttypes.h>
 #include <stdio.h>
 
+static const uint8_t asked[] = {7};
+static uint8_t file[VILTHOMM_FILE_BYTES];
+static vilthomm_loading loading;
+static vilthomm_opening opening;
+static vilthomm_answer ran;
+
 int main(void)
 {
-    uint8_t file[VILTHOMM_FILE_BYTES], asked[] = {7};
     FILE *board = fopen("examples/001/board.pha", "rb");
     size_t length = board ? fread(file, 1, sizeof file, board) : 0;
     if (board)
         fclose(board);
-    vilthomm_loading loading = vilthomm_load(file, length);
+    loading = vilthomm_load(file, length);
     if (loading.number) {
         printf("refused %" PRIu64 " at %zu\n", loading.number, loading.place);
         return 1;
     }
-    vilthomm_opening opening = vilthomm_open(loading.table, asked, sizeof asked);
+    opening = vilthomm_open(loading.table, asked, sizeof asked);
     if (opening.number) {
         printf("refused %" PRIu64 "\n", opening.number);
         return 1;
     }
-    vilthomm_answer ran = vilthomm_run(loading.table, opening.search, 100);
+    ran = vilthomm_run(loading.table, opening.search, 100);
     printf("total %" PRIu64 "\n", vilthomm_total(loading.table).total);
     for (size_t i = 0; i < ran.search.lines; i++) {
         printf("%" PRIu64, ran.search.line_weight[i]);
