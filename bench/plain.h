@@ -1,7 +1,8 @@
-/* Document 01's search in plain C, to compare with. Two renderings of one interface:
+/* Document 01's search in C, to compare with. Three renderings of one interface:
      plain_    the entries sorted in one array of structs, moved by memmove
      ordered_  the entries stay where they are, an array of their places is sorted
-   Unlike the library this trusts what it is handed: a board file that is known good, a question that is, and searches of its own. */
+     best_     the fastest that was found
+   Unlike the library these trust what they are handed: a board file that is known good, a question that is, and searches of their own. */
 #ifndef PLAIN_H
 #define PLAIN_H
 
@@ -48,5 +49,6 @@ void plain_open(const board *b, const uint8_t *atoms, size_t count, search *s);
 
 answer plain_run(const board *b, search *s, unsigned allowance);
 answer ordered_run(const board *b, search *s, unsigned allowance);
+answer best_run(const board *b, search *s, unsigned allowance);
 
 #endif
