@@ -1,153 +1,16 @@
-/* A thread is given a stack that is filled with one byte; what is no longer that byte after a call was written. Each call is made twice, of
-   the entry point and of a function of the same type that writes its result and nothing else: the difference is what the entry point takes
-   itself, beside what its caller hands over by value. */
+/* A thread is given a stack that is filled with one byte; what is no longer that byte after a call was written. */
 #include "stack.h"
 #include <pthread.h>
+#include <stdint.h>
 #include <stdio.h>
 #include <stdlib.h>
 #include <string.h>
 
-enum { ROOM = 4 << 20, FILL = 0xa5 };
-
-typedef vilthomm_loading load_function(const uint8_t *, size_t);
-typedef vilthomm_opening open_function(vilthomm_table, const uint8_t *, size_t);
-typedef vilthomm_answer run_function(vilthomm_table, vilthomm_search, uint16_t);
-typedef vilthomm_share_answer share_function(vilthomm_table, vilthomm_search, size_t);
-typedef vilthomm_holds_answer yes_or_no_function(vilthomm_table, const uint8_t *, size_t, uint8_t);
-typedef vilthomm_total_answer total_function(vilthomm_table);
-typedef size_t listing_function(const uint8_t *, size_t, const uint8_t *, size_t, uint8_t *, size_t);
-
-/* What is handed to the calls, and what they are made of. */
-static struct {
-    const uint8_t *file, *asked;
-    size_t length, count;
-    uint8_t input[1 + VILTHOMM_MOST_ASKED + 2];
-    vilthomm_table table, ladder;
-    vilthomm_search search;
-    uint16_t allowance;
-    load_function *load;
-    open_function *open;
-    run_function *run;
-    share_function *share;
-    yes_or_no_function *yes_or_no;
-    total_function *total;
-    listing_function *listing;
-} call;
-
-static union {
-    vilthomm_loading loading;
-    vilthomm_opening opening;
-    vilthomm_answer answer;
-    vilthomm_share_answer share;
-    vilthomm_holds_answer holds;
-    vilthomm_total_answer total;
-    size_t written;
-} result;
-
-static uint8_t text[VILTHOMM_TEXT_BYTES];
+enum { ROOM = 4 << 20, FILL = 0xa5, GOAL = 256 << 10 };
 
 static void *nothing(void *unused)
 {
     return unused;
-}
-
-static void *load(void *unused)
-{
-    result.loading = call.load(call.file, call.length);
-    return unused;
-}
-
-static void *open_question(void *unused)
-{
-    result.opening = call.open(call.table, call.asked, call.count);
-    return unused;
-}
-
-static void *run(void *unused)
-{
-    result.answer = call.run(call.table, call.search, call.allowance);
-    return unused;
-}
-
-static void *share(void *unused)
-{
-    result.share = call.share(call.table, call.search, 1);
-    return unused;
-}
-
-static void *yes_or_no(void *unused)
-{
-    result.holds = call.yes_or_no(call.ladder, NULL, 0, 127);
-    return unused;
-}
-
-static void *total(void *unused)
-{
-    result.total = call.total(call.table);
-    return unused;
-}
-
-static void *listing(void *unused)
-{
-    result.written = call.listing(call.file, call.length, call.input, sizeof call.input, text, sizeof text);
-    return unused;
-}
-
-static vilthomm_loading no_load(const uint8_t *file, size_t length)
-{
-    (void)file, (void)length;
-    return (vilthomm_loading){0};
-}
-
-static vilthomm_opening no_open(vilthomm_table table, const uint8_t *asked, size_t count)
-{
-    (void)table, (void)asked, (void)count;
-    return (vilthomm_opening){0};
-}
-
-static vilthomm_answer no_run(vilthomm_table table, vilthomm_search search, uint16_t allowance)
-{
-    (void)table, (void)search, (void)allowance;
-    return (vilthomm_answer){0};
-}
-
-static vilthomm_share_answer no_share(vilthomm_table table, vilthomm_search search, size_t line)
-{
-    (void)table, (void)search, (void)line;
-    return (vilthomm_share_answer){0};
-}
-
-static vilthomm_holds_answer no_yes_or_no(vilthomm_table table, const uint8_t *state, size_t count, uint8_t atom)
-{
-    (void)table, (void)state, (void)count, (void)atom;
-    return (vilthomm_holds_answer){0};
-}
-
-static vilthomm_total_answer no_total(vilthomm_table table)
-{
-    (void)table;
-    return (vilthomm_total_answer){0};
-}
-
-static size_t no_listing(const uint8_t *file, size_t length, const uint8_t *input, size_t input_length, uint8_t *to, size_t room)
-{
-    (void)file, (void)length, (void)input, (void)input_length, (void)to, (void)room;
-    return 0;
-}
-
-/* A board of 128 atoms, each but the first from the one below it: the atom tests stand as deep in each other as they can. */
-static vilthomm_table ladder(void)
-{
-    uint8_t file[2 + 127 * 10 + 1] = {1, 128};
-    memset(file + 2, 255, sizeof file - 2);
-    for (int atom = 1; atom < 128; atom++) {
-        uint8_t *rule = file + 2 + (atom - 1) * 10;
-        rule[0] = 3;
-        rule[1] = (uint8_t)atom;
-        rule[2] = (uint8_t)(atom - 1);
-    }
-    file[sizeof file - 1] = 4;
-    return vilthomm_load(file, sizeof file).table;
 }
 
 /* How much of a stack of its own a thread with this function writes. */
@@ -172,57 +35,15 @@ static size_t written(void *function(void *))
     return ROOM - untouched;
 }
 
-static void use_library(void)
-{
-    call.load = vilthomm_load;
-    call.open = vilthomm_open;
-    call.run = vilthomm_run;
-    call.share = vilthomm_share;
-    call.yes_or_no = vilthomm_yes_or_no;
-    call.total = vilthomm_total;
-    call.listing = vilthomm_listing;
-}
-
-static void use_stand_ins(void)
-{
-    call.load = no_load;
-    call.open = no_open;
-    call.run = no_run;
-    call.share = no_share;
-    call.yes_or_no = no_yes_or_no;
-    call.total = no_total;
-    call.listing = no_listing;
-}
-
-static void print_stack(const char *name, void *function(void *))
+bool print_stack(const char *name, void *call(void *), void use(bool library))
 {
     size_t none = written(nothing);
-    use_stand_ins();
-    size_t handed = written(function);
-    use_library();
-    size_t whole = written(function);
-    printf("%-10s %7.1f   with what is handed over by value %7.1f   goal: under 256\n", name, (double)(whole - handed) / 1024,
-           (double)(whole - none) / 1024);
-}
-
-void print_stacks(const uint8_t *file, size_t length, const uint8_t *asked, size_t count, const vilthomm_search *full)
-{
-    call.file = file;
-    call.length = length;
-    call.asked = asked;
-    call.count = count;
-    call.table = vilthomm_load(file, length).table;
-    call.ladder = ladder();
-    call.search = *full;
-    call.allowance = 1000;
-    memset(call.input, 0xff, sizeof call.input);
-    call.input[0] = (uint8_t)count;
-    memcpy(call.input + 1, asked, count);
-    print_stack("load", load);
-    print_stack("open", open_question);
-    print_stack("run", run);
-    print_stack("share", share);
-    print_stack("yes_or_no", yes_or_no);
-    print_stack("total", total);
-    print_stack("listing", listing);
+    use(false);
+    size_t handed = written(call);
+    use(true);
+    size_t whole = written(call);
+    bool met = whole - none < GOAL;
+    printf("%-10s %7.1f   with what is handed over by value %7.1f   goal: under %d%s\n", name, (double)(whole - handed) / 1024,
+           (double)(whole - none) / 1024, GOAL / 1024, met ? "" : ", missed");
+    return met;
 }
