@@ -44,11 +44,16 @@
      vilthomm_total         90,000                                        10.2   (13.2)
      vilthomm_listing       load's, open's and run's, 700,000 more       234.6  (234.6)
 
-   The bound of a step is that of an atom with 256 rules. `bench/run` measures, in processor time on a current x86-64: on the boards of the benchmark, at 512
-   entries, a step takes 30 to 100 nanoseconds, and what a run does beside its steps as long as some 560 such steps over a full search, some 60
-   microseconds, less over a small one. On the dearest board that was found (217 rules of one atom, pending again and again beside 500 entries), runs
-   of 1,000 steps take up to 13 microseconds a step. So an allowance of 1,000 is 0.2 milliseconds on boards as those of the benchmark, and up to 13 on the
-   dearest. That no board is dearer is not claimed.
+   The bound of a step is that of an atom with 256 rules. `bench/run` measures, in processor time on a current x86-64, along whole stretches at 480 to 512
+   entries on five boards (bench/README.md has its figures):
+   - A step takes 30 to 100 nanoseconds on average. A run tests its table and its search each time: beside its steps it takes up to 90 to 145 microseconds,
+     by the board, as long as 1,400 to 3,800 steps there, and less over a small search. So a run of 1,000 steps takes up to 120 to 240 microseconds, most of
+     it tests. Few long runs are cheaper than many short ones.
+   - A share makes the same tests, at each call: up to 85 to 140 microseconds. Of a whole list, line_weight[i] * 1000 / low of a run's answer is the same.
+   - In long runs the library takes 2.6 to 5.2 times the steps a second of plain C with its entries sorted in one array, 0.85 to 1.7 times those of the same
+     C with an array that has their order, and 0.25 to 0.9 times those of the fastest C that was found. That C tests nothing.
+   - On the dearest board that was found (217 rules of one atom, pending again and again beside 500 entries), runs of 1,000 steps take up to 13 microseconds
+     a step, so 13 milliseconds. That no board is dearer is not claimed.
 
    The functions are in target/staticlib/libfirmware.a, made by `rt staticlib firmware`, for x86-64 Linux. Of the C library it calls memcpy and memset.
    docs/FIRMWARE.md says how this takes the place of a C module. "Document 01" is the product's scope; its numbers and words stand below. */
@@ -207,7 +212,8 @@ vilthomm_opening vilthomm_open(vilthomm_table table, const uint8_t *atoms, size_
    search. */
 vilthomm_answer vilthomm_run(vilthomm_table table, vilthomm_search search, uint16_t allowance);
 
-/* The share of a line, counted from 1, in thousandths of the low end, rounded down. Lends nothing. Refuses with 20, 34, 36, tested in that order. */
+/* The share of a line, counted from 1, in thousandths of the low end, rounded down. Lends nothing. Refuses with 20, 34, 36, tested in that order. Each call
+   tests the table and the whole search, as a run does. */
 vilthomm_share_answer vilthomm_share(vilthomm_table table, vilthomm_search search, size_t line);
 
 /* Does the atom hold in the board state? Lends: the state's `count` atoms, read: one hypothesis of each declaration, in the order of the declarations.
