@@ -6,14 +6,9 @@
 #include "stack.h"
 #include <stdio.h>
 
-/* What stands after the runs. The search comes first; the rest has room for what loading, opening and the last run answered. */
-typedef struct {
-    vilthomm_search search;
-    uint64_t rest[16];
-} driven;
-
-typedef driven drive_function(const uint8_t *file, size_t length, const uint8_t *question, size_t count, const uint16_t *allowance,
-                              size_t runs);
+/* Hands back the search after the runs. */
+typedef vilthomm_search drive_function(const uint8_t *file, size_t length, const uint8_t *question, size_t count, const uint16_t *allowance,
+                                       size_t runs);
 
 /* In the archive of the crate `driving`. */
 drive_function vilthomm_drive;
@@ -21,12 +16,13 @@ drive_function vilthomm_drive;
 static const uint16_t allowance[] = {1000, 0, 65535};
 static asked board;
 static drive_function *function;
-static driven result;
+static vilthomm_search result;
 
-static driven no_drive(const uint8_t *file, size_t length, const uint8_t *question, size_t count, const uint16_t *handed, size_t runs)
+static vilthomm_search no_drive(const uint8_t *file, size_t length, const uint8_t *question, size_t count, const uint16_t *handed,
+                                size_t runs)
 {
     (void)file, (void)length, (void)question, (void)count, (void)handed, (void)runs;
-    return (driven){0};
+    return (vilthomm_search){0};
 }
 
 static void use(bool library)
@@ -46,7 +42,7 @@ int main(int count, char **names)
         return 2;
     read_asked(names[1], &board);
     bool met = print_stack("drive", drive, use);
-    if (result.search.lines == 0) {
+    if (result.lines == 0) {
         fprintf(stderr, "%s: the driver listed nothing\n", board.name);
         return 1;
     }
