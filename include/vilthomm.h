@@ -56,7 +56,8 @@
      a step, so 13 milliseconds. That no board is dearer is not claimed.
 
    The functions are in target/staticlib/libfirmware.a, made by `rt staticlib firmware`, for x86-64 Linux. Of the C library it calls memcpy and memset.
-   docs/FIRMWARE.md says how this takes the place of a C module. "Document 01" is the product's scope; its numbers and words stand below. */
+   docs/FIRMWARE.md says how this takes the place of a C module, docs/FORMAT.md has the board file byte by byte and what to do about each refusal. "Document 01" is
+   the product's scope; its numbers and words stand below. */
 #ifndef VILTHOMM_H
 #define VILTHOMM_H
 
@@ -116,7 +117,7 @@ enum {
     VILTHOMM_REFUSED_ASKED_ORDER = 23, /* asked order: asked atoms not strictly ascending */
     VILTHOMM_REFUSED_BOARD_STATE = 25, /* board state: not one choice per declaration, or a choice from elsewhere */
     VILTHOMM_REFUSED_STORE_FULL = 31,  /* store full: more than 512 entries, held and new ones, would be held after the step */
-    VILTHOMM_REFUSED_OVERLAP = 32,     /* overlap: two explanations can both be so, and their weights must not be added: the board's rules are at fault */
+    VILTHOMM_REFUSED_OVERLAP = 32,     /* overlap: two different minimal explanations of the question are compatible, so their weights must not be added */
     VILTHOMM_REFUSED_LIST_FULL = 33,   /* list full: a 257th line */
     VILTHOMM_REFUSED_SEARCH = 34,      /* search: a search that is not well formed; no open and no run over this table leaves such a one */
     VILTHOMM_REFUSED_LINE = 36         /* line: no such line */
@@ -207,9 +208,10 @@ vilthomm_opening vilthomm_open(vilthomm_table table, const uint8_t *atoms, size_
 
 /* Takes steps until the allowance is used, nothing is left or a step is refused. Lends nothing. Refuses with 20 or 34, tested in that order, or
    stops before a step that is refused with 31, 32 or 33. Hand in the table that the question was opened on, and the search that open or the last run left.
-   However the steps are cut into runs, the lines, the ends and the sum of the steps come out the same. A search that was refused with 31, 32 or 33 stays as
-   good as it was and will be refused again. The allowance is 0 to 65,535; C cuts a larger number without a word. An allowance of 0 tells the ends of a
-   search. */
+   The lines that were there stay where they are, and new ones come after them. However the steps are cut into runs, the lines, the ends and the sum of the
+   steps come out the same (tested, not proved). A search that was refused with 31, 32 or 33 stays as good as it was; a further run with an allowance of 1 or
+   more is refused so again and takes no step. The allowance is 0 to 65,535; C cuts a larger number without a word. An allowance of 0 tells the ends of a
+   search, and answers done or more. */
 vilthomm_answer vilthomm_run(vilthomm_table table, vilthomm_search search, uint16_t allowance);
 
 /* The share of a line, counted from 1, in thousandths of the low end, rounded down. Lends nothing. Refuses with 20, 34, 36, tested in that order. Each call
