@@ -4,9 +4,9 @@ use Prim.Native.Nat.{ℕ, zero, suc, _+_, _^_, _≤_, _<_, compare, Ordering, Or
 use native.Mathlib.Nat.{not-suc-le-zero}
 use native.Mathlib.Omega.{arith}
 use mathlib.Core.Path.{_≡_, refl, sym, ap, ap₂, _∙_}
-use mathlib.Core.Bool.{Bool, true, false, not, xor, cond}
-use mathlib.Core.List.{List, [], _∷_, _++_, List·Memᴰ, List·Memᴰ·head}
-use lib.Bits.{bitXor, xor-comm, xor-lt}
+use mathlib.Core.Bool.{Bool, true, false, xor, cond}
+use mathlib.Core.List.{List, [], _∷_, List·Memᴰ, List·Memᴰ·head}
+use lib.Bits.{bitXor, xor-lt}
 use lib.Count.{trailingZeros}
 use lib.Dec.{eqb, ltb}
 use lib.ListN.{length}
@@ -96,20 +96,6 @@ dictionary-then xs ys next other = go (dictionary xs ys) refl
     go Ordering·eq e = absurd (other (dictionary-eq xs ys e))
     go Ordering·gt e = refl
 
--- ---- a list and a longer one that it begins
-
--- the longer one comes after it
-pub dictionary-longer : (xs : List ℕ) (y : ℕ) (ys : List ℕ) → dictionary xs (xs ++ (y ∷ ys)) ≡ Ordering·lt
-unfolding dictionary andThen
-dictionary-longer [] y ys = refl
-dictionary-longer (x ∷ xs) y ys = rw (compare-same x) (dictionary-longer xs y ys)
-
--- .. and it before the longer one
-pub dictionary-shorter : (xs : List ℕ) (y : ℕ) (ys : List ℕ) → dictionary (xs ++ (y ∷ ys)) xs ≡ Ordering·gt
-unfolding dictionary andThen
-dictionary-shorter [] y ys = refl
-dictionary-shorter (x ∷ xs) y ys = rw (compare-same x) (dictionary-shorter xs y ys)
-
 -- ---- the lowest difference decides
 
 -- the atoms in which two sets differ are those of one number
@@ -171,21 +157,6 @@ difference-lowest k s t h l other = trailing-lowest k (bitXor s t) (xor-lt k s t
     same true false e = e
     same false true e = sym e
     same false false e = refl
-
--- of two sets that are not equal, one comes first
-pub lowestFirst-turned : (s t : ℕ) → s < 2 ^ mostAtoms → t < 2 ^ mostAtoms → (s ≡ t → ⊥) → lowestFirst t s ≡ not (lowestFirst s t)
-unfolding xor
-lowestFirst-turned s t h l other =
-    let (less, lowest) = difference-lowest mostAtoms s t h l other in
-    let a = trailingZeros mostAtoms (bitXor s t) in
-    rw (lowestFirst-at s t a lowest less, lowestFirst-at t s a (rw (xor-comm t s) lowest) less)
-    (told (member a s) (member a t) (sym (member-xor a s t) ∙ true-of-T _ (lowest .has)))
-  where
-    told : (b c : Bool) → xor b c ≡ true → c ≡ not b
-    told true true e = sym e
-    told true false e = refl
-    told false true e = refl
-    told false false e = e
 
 -- ---- sets of one size
 

@@ -33,11 +33,6 @@ module _ (m : Mask) (low : m .low < 2 ^ 64) (high : m .high < 2 ^ 64) where
   unfolding allBelow
   maskMeans-below = lt→ltb (maskMeans m) (2 ^ mostAtoms) maskMeans-less
 
--- the two words are those of the set
-pub mask-words : (m : Mask) (set : ℕ) → m .low < 2 ^ 64 → maskMeans m ≡ set → (m .low ≡ set % 2 ^ 64) × (m .high ≡ set / 2 ^ 64)
-unfolding maskMeans
-mask-words m set l e = omega arith
-
 -- masks that mean one set have the same words
 pub maskMeans-injective : (m n : Mask) → m .low < 2 ^ 64 → n .low < 2 ^ 64 → maskMeans m ≡ maskMeans n → (m .low ≡ n .low) × (m .high ≡ n .high)
 unfolding maskMeans

@@ -11,7 +11,7 @@ use Prim.Native.Nat.{ℕ, _^_}
 use mathlib.Core.Path.{_≡_, refl, sym, ap, _∙_, subst}
 use mathlib.Core.Bool.{Bool, true, false, _&&_, _||_, not, and-true, and-false, or-comm, or-assoc, or-false}
 use mathlib.Core.List.{List, [], _∷_, _++_}
-use mathlib.Core.Logic.{_⊎_, ⊎-elim}
+use mathlib.Core.Logic.{_⊎_}
 use native.Mathlib.Decide.{ℕ-discrete}
 use lib.Dec.{T, eqb, eqb→eq}
 use borrow.Author.Tests.{eq-eqb, ne-eqb}
@@ -116,26 +116,9 @@ subset-antisym {s} {t} h k = set-ext (λ a. T-ext (member a s) (member a t) (sub
 pub subset-empty : (s : ℕ) → T (subset 0 s)
 subset-empty s = subset-of 0 s (λ a h. absurd (subst T (member-empty a) h))
 
--- s is a subset of its union with t
-pub subset-union-left : (s t : ℕ) → T (subset s (union s t))
-subset-union-left s t = subset-of s (union s t) (λ a. union-left a s t)
-
--- t is a subset of the union with t
-pub subset-union-right : (s t : ℕ) → T (subset t (union s t))
-subset-union-right s t = subset-of t (union s t) (λ a. union-right a s t)
-
--- a union is a subset of u if both sets are
-pub subset-union : (s t u : ℕ) → T (subset s u) → T (subset t u) → T (subset (union s t) u)
-subset-union s t u h k =
-    subset-of (union s t) u (λ a m. ⊎-elim (subset-at s u a h) (subset-at t u a k) (union-cases a s t m))
-
 -- s is a subset of s and a
 pub subset-with : (a s : ℕ) → T (subset s (with a s))
 subset-with a s = subset-of s (with a s) (λ b. with-left b a s)
-
--- s less a is a subset of s
-pub subset-without : (a s : ℕ) → T (subset (without a s) s)
-subset-without a s = subset-of (without a s) s (λ b. without-left b a s)
 
 -- ---- equations
 
@@ -147,18 +130,9 @@ union-comm s t = set-ext (λ a. member-union a s t ∙ or-comm (member a s) (mem
 pub union-assoc : (s t u : ℕ) → union (union s t) u ≡ union s (union t u)
 union-assoc s t u = set-ext λ a. simp member-union (or-assoc (member a s) (member a t) (member a u))
 
--- a set's union with itself
-pub union-idem : (s : ℕ) → union s s ≡ s
-union-idem s = union-subset s s (subset-refl s)
-
 -- a union with the empty set
 pub union-empty : (s : ℕ) → union s 0 ≡ s
 union-empty s = union-comm s 0 ∙ union-subset 0 s (subset-empty s)
-
--- the set of one atom
-pub with-empty : (a : ℕ) → with a 0 ≡ 2 ^ a
-unfolding with
-with-empty a = union-subset 0 (2 ^ a) (subset-empty (2 ^ a))
 
 -- sets that agree on one atom and on all others are equal
 set-ext-at : (a s t : ℕ) → member a s ≡ member a t → ((b : ℕ) → (a ≡ b → ⊥) → member b s ≡ member b t) → s ≡ t
@@ -168,10 +142,6 @@ set-ext-at a s t here other = set-ext (λ b. go b (ℕ-discrete a b))
     go b (yes e) = rw e at here
     go b (no f) = other b f
 
--- a member more changes nothing
-pub with-member : (a s : ℕ) → T (member a s) → with a s ≡ s
-with-member a s h = set-ext-at a _ _ (true-of-T _ (with-same a s) ∙ sym (true-of-T _ h)) (λ b. with-other b a s)
-
 -- an atom less that is no member changes nothing
 pub without-not-member : (a s : ℕ) → member a s ≡ false → without a s ≡ s
 without-not-member a s h = set-ext-at a _ _ (without-same a s ∙ sym h) (λ b. without-other b a s)
@@ -180,7 +150,3 @@ without-not-member a s h = set-ext-at a _ _ (without-same a s ∙ sym h) (λ b. 
 pub with-without : (a s : ℕ) → T (member a s) → with a (without a s) ≡ s
 with-without a s h =
     set-ext-at a _ _ (true-of-T _ (with-same a (without a s)) ∙ sym (true-of-T _ h)) (λ b f. with-other b a (without a s) f ∙ without-other b a s f)
-
--- an atom more that was no member, and the same atom less
-pub without-with : (a s : ℕ) → member a s ≡ false → without a (with a s) ≡ s
-without-with a s h = set-ext-at a _ _ (without-same a (with a s) ∙ sym h) (λ b f. without-other b a (with a s) f ∙ with-other b a s f)

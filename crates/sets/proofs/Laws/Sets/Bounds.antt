@@ -5,7 +5,6 @@ use Prim.Native.Nat.{ℕ, _+_, _-_, _^_, _≤_, _<_}
 use native.Mathlib.Nat.{lt-of-lt-of-le}
 use native.Mathlib.Omega.{arith}
 use mathlib.Core.Path.{_≡_, ap, _∙_, subst}
-use mathlib.Core.Bool.{false}
 use mathlib.Core.List.{List, List·Memᴰ}
 use mathlib.Core.Logic.{⊎-elim}
 use lib.Pow.{pow-pos}
@@ -15,7 +14,7 @@ use Rattle.sets.proofs.Laws.Tests.{true-of-T}
 use Rattle.sets.proofs.Laws.Lists.{among-at}
 use Rattle.sets.specs.Sets.{member, union, with, without, setOf, subset, allBelow}
 use Rattle.sets.proofs.Laws.Sets.Digits.{member-power, member-empty}
-use Rattle.sets.proofs.Laws.Sets.{union-cases, union-subset, with-same, with-cases, without-left, without-same, without-with, member-setOf, subset-at}
+use Rattle.sets.proofs.Laws.Sets.{union-cases, union-subset, with-cases, without-left, without-same, member-setOf}
 pub use Rattle.sets.proofs.Laws.Sets.Digits.{allBelow-at, allBelow-of}
 
 -- ---- the atoms below a number
@@ -27,10 +26,6 @@ allBelow-empty n = allBelow-of n 0 (λ a h. absurd (subst T (member-empty a) h))
 -- a greater number
 pub allBelow-up : (n m s : ℕ) → n ≤ m → T (allBelow n s) → T (allBelow m s)
 allBelow-up n m s l h = allBelow-of m s (λ a k. lt-of-lt-of-le (allBelow-at n s a h k) l)
-
--- a subset
-pub allBelow-subset : (n s t : ℕ) → T (subset s t) → T (allBelow n t) → T (allBelow n s)
-allBelow-subset n s t i h = allBelow-of n s (λ a k. allBelow-at n t a h (subset-at s t a i k))
 
 -- a union
 pub allBelow-union : (n s t : ℕ) → T (allBelow n s) → T (allBelow n t) → T (allBelow n (union s t))
@@ -73,10 +68,6 @@ without-member a s h = rw (true-of-T (member a s) h)
 -- a set less a member is less
 pub without-less : (a s : ℕ) → T (member a s) → without a s < s
 without-less a s h = rw (without-member a s h) (omega (arith, member-power a s h, pow-pos a))
-
--- a set with one atom more is greater
-pub with-more : (a s : ℕ) → member a s ≡ false → s < with a s
-with-more a s h = subst (λ (x : ℕ). x < with a s) (without-with a s h) (without-less a (with a s) (with-same a s))
 
 -- a set falls when its highest atom is replaced by lower ones
 pub replaced-less : (a s t : ℕ) → T (member a s) → ((b : ℕ) → T (member b s) → b ≤ a) → T (allBelow a t) → union (without a s) t < s

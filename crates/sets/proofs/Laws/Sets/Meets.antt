@@ -9,7 +9,7 @@ use Rattle.sets.specs.Sets.{mostAtoms, member, allBelow, members, meets}
 use Rattle.sets.proofs.Laws.Lists.{any-of, any-find, none-at}
 use Rattle.sets.proofs.Laws.Sets.Digits.{member-and, member-empty, set-ext}
 use Rattle.sets.proofs.Laws.Sets.Members.{members-at, members-of}
-use Rattle.sets.proofs.Laws.Tests.{T-of-true, true-of-T, false-of-T, T-ext, and-both, and-left, and-right}
+use Rattle.sets.proofs.Laws.Tests.{T-of-true, true-of-T, false-of-T, and-both, and-left, and-right}
 
 -- an atom that is in both of two sets that meet
 pub meets-find : (s t : ℕ) → T (meets s t) → (a : ℕ) × T (member a s) × T (member a t)
@@ -25,17 +25,6 @@ meets-of s t a b h k = any-of (λ a. member a t) (members-of s b h) k
 pub not-meets : (s t a : ℕ) → meets s t ≡ false → T (allBelow mostAtoms s) → T (member a s) → member a t ≡ false
 unfolding meets
 not-meets s t a e b h = none-at (λ a. member a t) e (members-of s b h)
-
--- where no atom of s is in t, the two do not meet
-pub meets-none : (s t : ℕ) → ((a : ℕ) → T (member a s) → T (member a t) → ⊥) → meets s t ≡ false
-meets-none s t f = false-of-T (meets s t) (λ h. let (a, k, l) = meets-find s t h in f a k l)
-
--- which set is asked whether it meets the other does not matter
-pub meets-comm : (s t : ℕ) → T (allBelow mostAtoms s) → T (allBelow mostAtoms t) → meets s t ≡ meets t s
-meets-comm s t b c = T-ext (meets s t) (meets t s) (turn s t c) (turn t s b)
-  where
-    turn : (s t : ℕ) → T (allBelow mostAtoms t) → T (meets s t) → T (meets t s)
-    turn s t c h = let (a, k, l) = meets-find s t h in meets-of t s a c l k
 
 -- two sets meet exactly if the number of the digits that they share is not 0
 pub meets-and : (s t : ℕ) → T (allBelow mostAtoms s) → meets s t ≡ not (eqb (bitAnd s t) 0)

@@ -1,47 +1,26 @@
--- The ascending list of a set's members, and the set's size: the list has exactly the members, ascends and determines the set; the size of the
--- empty set, of a set with an atom more or less, and of a subset. Assumes nothing.
-use Prim.Native.Nat.{ℕ, zero, suc, _+_, _-_, _≤_, _<_}
+-- The ascending list of a set's members, and the set's size: the list has exactly the members and determines the set; the size of the empty set,
+-- of a set with an atom more or less, and of a subset. Assumes nothing.
+use Prim.Native.Nat.{ℕ, suc, _+_, _-_, _≤_, _<_}
 use native.Mathlib.Nat.{zero-add}
 use native.Mathlib.Omega.{arith}
 use mathlib.Core.Path.{_≡_, refl, sym, ap, _∙_, subst}
-use mathlib.Core.Bool.{Bool, true, false, _&&_, not, cond, false≢true}
-use mathlib.Core.List.{List, [], _∷_, List·Memᴰ}
+use mathlib.Core.Bool.{Bool, true, false, _&&_, not, false≢true}
+use mathlib.Core.List.{List, [], List·Memᴰ}
 use mathlib.Core.Logic.{⊎-elim}
-use lib.Dec.{T, leb, leb→le, le→leb, eqb→eq}
+use lib.Dec.{T, eqb→eq}
 use lib.ListN.{length, length-append}
 use borrow.Author.Tests.{not-true}
-use Rattle.sets.specs.Lists.{any, keep, numbersFrom, below, among, ascending}
+use Rattle.sets.specs.Lists.{any, keep, numbersFrom, below, among}
 use Rattle.sets.proofs.Laws.Tests.{T-of-true, true-of-T, T-ext, and-both, and-left, and-right}
-use Rattle.sets.proofs.Laws.Lists.{any-find, keep-of, keep-at, keep-cong, among-of, among-at, keep-shorter, keep-fewer, keep-none, any-none}
-use Rattle.sets.proofs.Laws.Lists.Indices.{length-below, below-of, below-at, any-below, numbersFrom-least}
+use Rattle.sets.proofs.Laws.Lists.{any-find, keep-of, keep-at, keep-cong, among-of, among-at, keep-fewer, keep-none, any-none}
+use Rattle.sets.proofs.Laws.Lists.Indices.{below-of, below-at, any-below, numbersFrom-least}
 use Rattle.sets.proofs.Laws.Lists.Ends.{keep-append, numbersFrom-append}
-use Rattle.sets.proofs.Laws.Lists.Ascending.{ascendingFrom, ascending-next, ascending-from-zero}
 use Rattle.sets.specs.Sets.{mostAtoms}
 use Rattle.sets.specs.Sets.{member, with, without, setOf, subset, allBelow, members, size}
 use Rattle.sets.proofs.Laws.Sets.Digits.{member-empty, set-ext, allBelow-at}
 use Rattle.sets.proofs.Laws.Sets.{member-setOf, with-other, with-same, with-cases, without-same, with-without, subset-of, subset-at, subset-antisym}
 
 -- ---- lists of numbers
-
-ascendingFrom-down : (k : ℕ) (xs : List ℕ) → T (ascendingFrom (suc k) xs) → T (ascendingFrom k xs)
-unfolding ascendingFrom
-ascendingFrom-down k [] h = tt
-ascendingFrom-down k (x ∷ xs) h =
-    let l : suc k ≤ x = leb→le (suc k) x (and-left (leb (suc k) x) (ascending (x ∷ xs)) h) in
-    and-both (leb k x) (ascending (x ∷ xs)) (le→leb k x (omega arith)) (and-right (leb (suc k) x) (ascending (x ∷ xs)) h)
-
-module _ (p : ℕ → Bool) where
-  keep-ascends : (k n : ℕ) → T (ascendingFrom k (keep p (numbersFrom k n)))
-  unfolding keep numbersFrom ascendingFrom
-  keep-ascends k zero = tt
-  keep-ascends k (suc n) = go (p k) (keep-ascends (suc k) n)
-    where
-      rest : List ℕ
-      rest = keep p (numbersFrom (suc k) n)
-
-      go : (t : Bool) → T (ascendingFrom (suc k) rest) → T (ascendingFrom k (cond t (k ∷ rest) rest))
-      go true h = and-both (leb k k) (ascending (k ∷ rest)) (le→leb k k (omega arith)) (subst T (sym (ascending-next k rest)) h)
-      go false h = ascendingFrom-down k rest h
 
 module _ (p q : ℕ → Bool) (a : ℕ) (pa : p a ≡ false) (qa : q a ≡ true) (other : (x : ℕ) → (x ≡ a → ⊥) → q x ≡ p x) where
   -- a test that one number more passes keeps one more
@@ -70,11 +49,6 @@ members-below s {a} m = below-at (keep-at (λ x. member x s) (below mostAtoms) m
 pub members-of : (s : ℕ) {a : ℕ} → T (allBelow mostAtoms s) → T (member a s) → List·Memᴰ a (members s)
 unfolding members
 members-of s {a} b h = keep-of (λ x. member x s) (below-of (allBelow-at mostAtoms s a b h)) h
-
--- the list ascends
-pub members-ascending : (s : ℕ) → T (ascending (members s))
-unfolding members below
-members-ascending s = subst T (ascending-from-zero (members s)) (keep-ascends (λ x. member x s) 0 mostAtoms)
 
 -- the set of the members listed is the set
 pub setOf-members : (s : ℕ) → T (allBelow mostAtoms s) → setOf (members s) ≡ s
@@ -115,11 +89,6 @@ not-subset-member n s t b f = go (any only (below n)) refl
 pub size-empty : size 0 ≡ 0
 unfolding size
 size-empty = ap length members-empty
-
--- no set has more atoms than there are
-pub size-most : (s : ℕ) → size s ≤ mostAtoms
-unfolding size members
-size-most s = rw length-below at (keep-shorter (λ x. member x s) (below mostAtoms))
 
 -- an atom more that was no member
 pub size-with : (a s : ℕ) → member a s ≡ false → a < mostAtoms → size (with a s) ≡ suc (size s)
