@@ -13,7 +13,6 @@ mod checks;
 pub mod load;
 mod places;
 pub mod record;
-mod widen;
 
 // The table whose every field is zero, which a refused load hands back. Three counts and five arrays, some 3 KB.
 pub(crate) fn zero_table() -> Table

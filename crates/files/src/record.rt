@@ -1,8 +1,8 @@
 // One record of a board file (document 01, "The board file").
-use crate::widen::wide32;
-use crate::widen::wide64;
 use board::Read;
 use board::Record;
+use board::walks::wide32;
+use board::walks::wide64;
 ghost use mathlib.Core.Path.{_≡_};
 ghost use Prim.Native.Nat.{_+_, _≤_};
 ghost use lib.ListN.{length, take, drop};

@@ -10,6 +10,7 @@ use board::Loaded;
 use board::Table;
 use board::facts::whole_weight;
 use board::walks::wide;
+use board::walks::wide16;
 use files::load::load;
 use lines::put_lines;
 use put::put_bytes;
@@ -19,10 +20,9 @@ use running::run;
 use search::Ending;
 use search::Opened;
 use search::Search;
-ghost use mathlib.Core.Path.{_≡_};
 ghost use mathlib.Core.List.{_++_};
 ghost use mathlib.Core.Option.{some};
-ghost use Prim.Native.Nat.{_≤_, _<_};
+ghost use Prim.Native.Nat.{_≤_};
 ghost use lib.Dec.{T};
 ghost use lib.ListN.{length};
 ghost use Rattle.board.specs.Table.{boardOf, isTable};
@@ -52,14 +52,6 @@ pub fn input_bytes() -> usize
     ensures { λ r. ⌜ r ≡ inputBytes ⌝ }
 {
     INPUT_BYTES
-}
-
-// A byte in two bytes' room. 1 basic step.
-fn wide16(x: u8) -> u16
-    ensures { λ r. ⌜ r ≡ x ⌝ }
-    ensures { λ r. ⌜ r < 256 ⌝ }
-{
-    x as u16
 }
 
 // Puts how a run ended, after a blank and before a line feed.

@@ -8,7 +8,7 @@ pub mod Indices
 pub mod Padding
 pub mod Products
 use mathlib.Core.Path.{_≡_, refl, sym, ap, ap₂, _∙_}
-use mathlib.Core.Bool.{Bool, true, false, _&&_, _||_, cond, true≢false, false≢true}
+use mathlib.Core.Bool.{Bool, true, false, not, _&&_, _||_, cond, true≢false, false≢true}
 use mathlib.Core.List.{List, [], _∷_, map, List·Memᴰ, List·Memᴰ·head, List·Memᴰ·tail, List·Memᴰ·not-nil}
 use mathlib.Core.Logic.{_⊎_, inl, inr}
 use Prim.Native.Nat.{ℕ, _≤_}
@@ -76,6 +76,16 @@ module _ {ℓ} {A : Type ℓ} where
   unfolding any
   any-cong [] h = refl
   any-cong (x ∷ xs) h = ap₂ _||_ (h x (List·Memᴰ·head refl)) (any-cong xs (λ y m. h y (List·Memᴰ·tail m)))
+
+  -- some fail exactly if not all pass
+  pub any-not : (p : A → Bool) (xs : List A) → any (λ x. not (p x)) xs ≡ not (all p xs)
+  unfolding any all
+  any-not p [] = refl
+  any-not p (x ∷ xs) = go (p x) (any-not p xs)
+    where
+      go : (b : Bool) → any (λ x. not (p x)) xs ≡ not (all p xs) → (not b || any (λ x. not (p x)) xs) ≡ not (b && all p xs)
+      go true e = e
+      go false e = refl
 
   -- a weaker test passes on some where the stronger does
   pub any-mono : (p q : A → Bool) (xs : List A) → ((x : A) → List·Memᴰ x xs → T (p x) → T (q x)) → T (any p xs) → T (any q xs)

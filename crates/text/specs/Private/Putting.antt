@@ -3,11 +3,11 @@ use Prim.Native.Nat.{ℕ, _+_, _≤_}
 use mathlib.Core.Path.{_≡_}
 use mathlib.Core.Bool.{cond}
 use mathlib.Core.List.{List, [], _++_, map, flatten}
-use lib.ListN.{length, getD, take, drop}
-use Rattle.sets.specs.Sets.{member, words}
+use lib.ListN.{length, take, drop}
+use Rattle.sets.specs.Sets.{member}
 use Rattle.sets.specs.Lists.{below}
-use Rattle.search.specs.Order.{Line}
 use Rattle.search.specs.Listing.{lineText, decimal, bytesOf}
+use Rattle.search.specs.Store.{lineIn}
 
 -- the bytes with a piece over those from place `at` on
 unfoldable pub withPiece : List ℕ → ℕ → List ℕ → List ℕ
@@ -29,10 +29,6 @@ textsBelow text n = flatten (map text (below n))
 -- an atom after a blank, where it is in the set
 abbrev pub atomText : ℕ → ℕ → List ℕ
 atomText s a = cond (member a s) (bytesOf " " ++ decimal a) []
-
--- the line at index i of the three arrays
-abbrev pub lineIn : List ℕ → List ℕ → List ℕ → ℕ → Line
-lineIn weights lows highs i = record { weight = getD weights i 0; chosen = words (getD lows i 0) (getD highs i 0) }
 
 -- the text of the first n lines of the arrays
 abbrev pub linesText : List ℕ → List ℕ → List ℕ → ℕ → List ℕ

@@ -44,35 +44,10 @@ loop-holds : tie.Need-loop-holds Inv-loop μ-loop
 unfolding lowBytes
 loop-holds c = (omega arith, omega arith, refl)
 
-sub-i : tie.Need-sub-i Inv-loop μ-loop
-sub-i c = omega arith
-
-mul-packed : tie.Need-mul-packed Inv-loop μ-loop
-mul-packed c = omega (arith, room (c .before .loop .i) (c .before .loop .packed) (omega arith) (omega arith))
-
-add-wide64 : tie.Need-add-wide64 Inv-loop μ-loop
-add-wide64 c = omega arith
-
-shared-slice-read-wide64 : tie.Need-shared-slice-read-wide64 Inv-loop μ-loop
-shared-slice-read-wide64 c = omega arith
-
-wide64-requires : tie.Need-wide64-requires Inv-loop μ-loop
-wide64-requires c κs = search needs
-
--- the byte that was read is one
-byte-lt : (c : tie.After-wide64 Inv-loop μ-loop) → c .wide64 .result < 256
-byte-lt c =
-    let l = c .before .before .before .loop in
-    let a = c .before .before .before .before .before .args in
-    omega (arith, c .wide64 .ensures, c .before .shared-slice-known2 .given (a .at + (l .i - 1)))
-
 add-packed : tie.Need-add-packed Inv-loop μ-loop
 add-packed c =
     let l = c .before .before .before .loop in
-    omega (arith, room (l .i) (l .packed) (omega arith) (omega arith), byte-lt c)
-
-loop-less : tie.Need-loop-less Inv-loop μ-loop
-loop-less c = omega arith
+    omega (arith, room (l .i) (l .packed) (omega arith) (omega arith), c .wide64 .ensures .1)
 
 loop-again : tie.Need-loop-again Inv-loop μ-loop
 loop-again c =
@@ -80,9 +55,9 @@ loop-again c =
     let a = c .before .before .before .before .before .args in
     let one : l .i - 1 + 1 ≡ l .i = omega arith in (
       omega arith,
-      more-lt (l .i) (l .i - 1) (l .packed) (c .wide64 .result) one (omega arith) (byte-lt c) (l .inv .1),
-      more-bytes (l .i) (l .i - 1) (l .packed) (c .wide64 .result) one (omega arith) (byte-lt c) (now (a .file)) (a .at)
-          (omega arith) (c .wide64 .ensures) (l .inv .2),
+      more-lt (l .i) (l .i - 1) (l .packed) (c .wide64 .result) one (omega arith) (c .wide64 .ensures .1) (l .inv .1),
+      more-bytes (l .i) (l .i - 1) (l .packed) (c .wide64 .result) one (omega arith) (c .wide64 .ensures .1) (now (a .file)) (a .at)
+          (omega arith) (c .wide64 .ensures .0) (l .inv .2),
     )
 
 returns : tie.Need-returns Inv-loop μ-loop
@@ -99,12 +74,12 @@ eight-bytes-spec =
     Inv-loop
     μ-loop
     loop-holds
-    sub-i
-    mul-packed
-    add-wide64
-    shared-slice-read-wide64
-    wide64-requires
+    (λ c. omega arith)
+    (λ c. omega (arith, room (c .before .loop .i) (c .before .loop .packed) (omega arith) (omega arith)))
+    (λ c. omega arith)
+    (λ c. omega arith)
+    (λ c κs. search needs)
     add-packed
-    loop-less
+    (λ c. omega arith)
     loop-again
     returns)

@@ -6,7 +6,8 @@ use mathlib.Core.List.{List}
 use lib.ListN.{length}
 use denote.Ref.{now}
 use Rattle.search.specs.Listing.{lineText}
-use Rattle.text.specs.Private.Putting.{PutAs, textsBelow, lineIn, linesText}
+use Rattle.search.specs.Store.{lineIn}
+use Rattle.text.specs.Private.Putting.{PutAs, textsBelow, linesText}
 use Rattle.text.proofs.Laws.Putting.{put-length}
 use Rattle.text.proofs.Laws.Texts.{texts-none, texts-next, texts-put}
 use Rattle.text.proofs.lines.put_lines.Statement.{statement}
@@ -25,35 +26,11 @@ of s i = lineText (lineIn (now (s .args .weights)) (now (s .args .lows)) (now (s
 loop-holds : tie.Need-loop-holds Inv-loop μ-loop
 loop-holds c = (texts-none (of (c .before)), omega arith, refl)
 
-mul-put-line : tie.Need-mul-put-line Inv-loop μ-loop
-mul-put-line c = omega arith
-
-element-copy-out-put-line : tie.Need-element-copy-out-put-line Inv-loop μ-loop
-element-copy-out-put-line c = omega arith
-
-mul-put-line-2 : tie.Need-mul-put-line-2 Inv-loop μ-loop
-mul-put-line-2 c = omega arith
-
-element-copy-out-put-line-2 : tie.Need-element-copy-out-put-line-2 Inv-loop μ-loop
-element-copy-out-put-line-2 c = omega arith
-
-mul-put-line-3 : tie.Need-mul-put-line-3 Inv-loop μ-loop
-mul-put-line-3 c = omega arith
-
-element-copy-out-put-line-3 : tie.Need-element-copy-out-put-line-3 Inv-loop μ-loop
-element-copy-out-put-line-3 c = omega arith
-
 put-line-requires : tie.Need-put-line-requires Inv-loop μ-loop
 put-line-requires c κs =
     let s = c .before .before .before .before .before .before .before in
     let l = c .before .before .before .before .before .loop in
     texts-next (of s) (l .i) (s .args .n) (omega arith) (s .pre .1) (l .inv .0)
-
-add-i : tie.Need-add-i Inv-loop μ-loop
-add-i c = omega arith
-
-loop-less : tie.Need-loop-less Inv-loop μ-loop
-loop-less c = omega arith
 
 loop-again : tie.Need-loop-again Inv-loop μ-loop
 loop-again c =
@@ -82,15 +59,15 @@ put-lines-spec =
     Inv-loop
     μ-loop
     loop-holds
-    mul-put-line
-    element-copy-out-put-line
-    mul-put-line-2
-    element-copy-out-put-line-2
-    mul-put-line-3
-    element-copy-out-put-line-3
+    (λ c. omega arith)
+    (λ c. omega arith)
+    (λ c. omega arith)
+    (λ c. omega arith)
+    (λ c. omega arith)
+    (λ c. omega arith)
     put-line-requires
-    add-i
-    loop-less
+    (λ c. omega arith)
+    (λ c. omega arith)
     loop-again
     same-length
     returns)
