@@ -1,4 +1,5 @@
 pub mod Cases
+pub mod Computing
 pub mod Ends
 pub mod Entries
 pub mod EntryPoints
