@@ -26,12 +26,6 @@ stored s =
     storedIn (now (a .weight)) (now (a .chosen-low)) (now (a .chosen-high)) (now (a .pending-low)) (now (a .pending-high)) (a .n)
     (now (a .line-weight)) (now (a .line-low)) (now (a .line-high)) (a .m)
 
-is-table-requires : tie.Need-is-table-requires
-is-table-requires c κs = search needs
-
-refused-requires : tie.Need-refused-requires
-refused-requires c κs = search needs
-
 -- the table is one
 table-right : (c : tie.Else1) → isTable (c .before .before .args .t1) ≡ true
 table-right c = sym (c .before .is-table .ensures) ∙ not-false _ (c .if1 .left)
@@ -42,15 +36,6 @@ returns c =
     let a = st .args in
     admits-refused (within (a .entries) (a .lines)) (a .t1) (stored st) 20
     (refusal-table _ (a .t1) (stored st) (sym (c .before .before .is-table .ensures) ∙ not-true _ (c .before .if1 .taken))) (λ e. omega arith) (c .refused .result) (c .refused .ensures)
-
-at-most-requires : tie.Need-at-most-requires
-at-most-requires c κs = search needs
-
-at-most-requires-2 : tie.Need-at-most-requires-2
-at-most-requires-2 c κs = search needs
-
-refused-requires-2 : tie.Need-refused-requires-2
-refused-requires-2 c κs = search needs
 
 returns-2 : tie.Need-returns-2
 unfolding within
@@ -64,9 +49,6 @@ returns-2 c =
     (λ w. crowded-lines _ _ (stored st) (sym (m .at-most .ensures) ∙ not-false _ (w .0 .left)) (sym (w .1 .ensures) ∙ not-true _ (w .2 .taken))) (j .if2 .came) in
     admits-refused (within (a .entries) (a .lines)) (a .t1) (stored st) 34 (refusal-search _ (a .t1) (stored st) (table-right (m .before)) bad) (λ e. omega arith)
     (c .refused2 .result) (c .refused2 .ensures)
-
-whole-weight-requires : tie.Need-whole-weight-requires
-whole-weight-requires c κs = search needs
 
 -- its arrays are an accepted board's
 some-table : (c : tie.Else1) → let t = c .before .before .args .t1 in SomeTable (t .declaration) (t .atom) (t .weight) (t .hypotheses)
@@ -111,9 +93,6 @@ search-fits-requires c κs =
       record { board = boardOf (a .t1); known = known c },
     )
 
-refused-requires-3 : tie.Need-refused-requires-3
-refused-requires-3 c κs = search needs
-
 -- so the search's test is whether it is well formed
 decided : (c : tie.After-search-fits) → let st = c .before .before .before .before .before .before .before .before .before .before .before .before .before .before .before .before .before in let a = st .args in c .search-fits .result ≡ wellFormed (within (a .entries) (a .lines)) (boardOf (a .t1)) (stored st)
 unfolding within
@@ -146,16 +125,16 @@ pub admit-spec : {M : Type 1} → statement M
 admit-spec =
     tie.close
     (tie.spec
-    is-table-requires
-    refused-requires
+    (λ c κs. search needs)
+    (λ c κs. search needs)
     returns
-    at-most-requires
-    at-most-requires-2
-    refused-requires-2
+    (λ c κs. search needs)
+    (λ c κs. search needs)
+    (λ c κs. search needs)
     returns-2
-    whole-weight-requires
+    (λ c κs. search needs)
     hypothesis-words-requires
     search-fits-requires
-    refused-requires-3
+    (λ c κs. search needs)
     returns-3
     returns-4)

@@ -15,30 +15,6 @@ use Rattle.formed.proofs.Laws.Fits.{firstTwo, firstThree, firstFour, fi
 use Rattle.formed.proofs.search_fits.Statement.{statement}
 use Rattle.formed.proofs.search_fits.Tie as tie
 
-room-is-zero-requires : tie.Need-room-is-zero-requires
-room-is-zero-requires c κs = search needs
-
-pending-below-requires : tie.Need-pending-below-requires
-pending-below-requires c κs = search needs
-
-weights-stand-requires : tie.Need-weights-stand-requires
-weights-stand-requires c κs = search needs
-
-weights-stand-requires-2 : tie.Need-weights-stand-requires-2
-weights-stand-requires-2 c κs = search needs
-
-entries-ordered-requires : tie.Need-entries-ordered-requires
-entries-ordered-requires c κs = search needs
-
-lines-ordered-requires : tie.Need-lines-ordered-requires
-lines-ordered-requires c κs = search needs
-
-lines-apart-requires : tie.Need-lines-apart-requires
-lines-apart-requires c κs = search needs
-
-lines-first-requires : tie.Need-lines-first-requires
-lines-first-requires c κs = search needs
-
 -- the search, from the first test on
 abbrev stored : tie.Start → Stored
 stored s =
@@ -46,50 +22,50 @@ stored s =
     storedIn (now (a .weight)) (now (a .chosen-low)) (now (a .chosen-high)) (now (a .pending-low)) (now (a .pending-high)) (a .n)
     (now (a .line-weight)) (now (a .line-low)) (now (a .line-high)) (a .m)
 
-abbrev search : tie.After-room-is-zero → Stored
-search c = stored (c .before)
+abbrev tested : tie.After-room-is-zero → Stored
+tested c = stored (c .before)
 
 -- what the contract asks of a board
 abbrev Of : tie.After-room-is-zero → Board → Type 0
 Of c b = Known b (now (c .before .args .words)) (c .before .args .whole) × (c .before .args .atoms ≡ b .atoms)
 
-two : (c : tie.Joined1) (b : Board) → Of (c .before) b → c .if1 .if2 ≡ firstTwo b (search (c .before))
+two : (c : tie.Joined1) (b : Board) → Of (c .before) b → c .if1 .if2 ≡ firstTwo b (tested (c .before))
 two c b o =
     let first = sym (c .before .room-is-zero .ensures) in
-    ⊎-elim {C = c .if1 .if2 ≡ firstTwo b (search (c .before))} (λ w. and-then (first ∙ w .0 .taken) (w .2 ∙ w .1 .ensures ∙ ap (λ (n : ℕ). let s = search (c .before) in pendingBelow n (s .«pending_low») (s .«pending_high») (s .entries)) (o .1)))
+    ⊎-elim {C = c .if1 .if2 ≡ firstTwo b (tested (c .before))} (λ w. and-then (first ∙ w .0 .taken) (w .2 ∙ w .1 .ensures ∙ ap (λ (n : ℕ). let s = tested (c .before) in pendingBelow n (s .«pending_low») (s .«pending_high») (s .entries)) (o .1)))
     (λ w. and-else _ (first ∙ w .0 .left) (w .1 ∙ sym first)) (c .if1 .came)
 
-three : (c : tie.Joined2) (b : Board) → Of (c .before .before) b → c .if2 .if3 ≡ firstThree b (search (c .before .before))
+three : (c : tie.Joined2) (b : Board) → Of (c .before .before) b → c .if2 .if3 ≡ firstThree b (tested (c .before .before))
 three c b o =
     let first = sym (two (c .before) b o) in
-    ⊎-elim {C = c .if2 .if3 ≡ firstThree b (search (c .before .before))} (λ w. and-then (first ∙ w .0 .taken) (w .5 ∙ w .4 .ensures b (o .0)))
+    ⊎-elim {C = c .if2 .if3 ≡ firstThree b (tested (c .before .before))} (λ w. and-then (first ∙ w .0 .taken) (w .5 ∙ w .4 .ensures b (o .0)))
     (λ w. and-else _ (first ∙ w .0 .left) (w .1 ∙ sym first)) (c .if2 .came)
 
-four : (c : tie.Joined3) (b : Board) → Of (c .before .before .before) b → c .if3 .if4 ≡ firstFour b (search (c .before .before .before))
+four : (c : tie.Joined3) (b : Board) → Of (c .before .before .before) b → c .if3 .if4 ≡ firstFour b (tested (c .before .before .before))
 four c b o =
     let first = sym (three (c .before) b o) in
-    ⊎-elim {C = c .if3 .if4 ≡ firstFour b (search (c .before .before .before))} (λ w. and-then (first ∙ w .0 .taken) (w .5 ∙ w .4 .ensures b (o .0)))
+    ⊎-elim {C = c .if3 .if4 ≡ firstFour b (tested (c .before .before .before))} (λ w. and-then (first ∙ w .0 .taken) (w .5 ∙ w .4 .ensures b (o .0)))
     (λ w. and-else _ (first ∙ w .0 .left) (w .1 ∙ sym first)) (c .if3 .came)
 
-five : (c : tie.Joined4) (b : Board) → Of (c .before .before .before .before) b → c .if4 .if5 ≡ firstFive b (search (c .before .before .before .before))
+five : (c : tie.Joined4) (b : Board) → Of (c .before .before .before .before) b → c .if4 .if5 ≡ firstFive b (tested (c .before .before .before .before))
 unfolding searchOf entryAt lineAt
 five c b o =
     let first = sym (four (c .before) b o) in
-    ⊎-elim {C = c .if4 .if5 ≡ firstFive b (search (c .before .before .before .before))} (λ w. and-then (first ∙ w .0 .taken) (w .2 ∙ w .1 .ensures))
+    ⊎-elim {C = c .if4 .if5 ≡ firstFive b (tested (c .before .before .before .before))} (λ w. and-then (first ∙ w .0 .taken) (w .2 ∙ w .1 .ensures))
     (λ w. and-else _ (first ∙ w .0 .left) (w .1 ∙ sym first)) (c .if4 .came)
 
-six : (c : tie.Joined5) (b : Board) → Of (c .before .before .before .before .before) b → c .if5 .if6 ≡ firstSix b (search (c .before .before .before .before .before))
+six : (c : tie.Joined5) (b : Board) → Of (c .before .before .before .before .before) b → c .if5 .if6 ≡ firstSix b (tested (c .before .before .before .before .before))
 unfolding searchOf entryAt lineAt
 six c b o =
     let first = sym (five (c .before) b o) in
-    ⊎-elim {C = c .if5 .if6 ≡ firstSix b (search (c .before .before .before .before .before))} (λ w. and-then (first ∙ w .0 .taken) (w .2 ∙ w .1 .ensures))
+    ⊎-elim {C = c .if5 .if6 ≡ firstSix b (tested (c .before .before .before .before .before))} (λ w. and-then (first ∙ w .0 .taken) (w .2 ∙ w .1 .ensures))
     (λ w. and-else _ (first ∙ w .0 .left) (w .1 ∙ sym first)) (c .if5 .came)
 
-seven : (c : tie.Joined6) (b : Board) → Of (c .before .before .before .before .before .before) b → c .if6 .if7 ≡ firstSeven b (search (c .before .before .before .before .before .before))
+seven : (c : tie.Joined6) (b : Board) → Of (c .before .before .before .before .before .before) b → c .if6 .if7 ≡ firstSeven b (tested (c .before .before .before .before .before .before))
 unfolding searchOf entryAt lineAt
 seven c b o =
     let first = sym (six (c .before) b o) in
-    ⊎-elim {C = c .if6 .if7 ≡ firstSeven b (search (c .before .before .before .before .before .before))} (λ w. and-then (first ∙ w .0 .taken) (w .2 ∙ w .1 .ensures b (o .0 .accepted) (o .0 .words) (six-choices b (search (c .before .before .before .before .before .before)) (T-of-true (first ∙ w .0 .taken))) (search (c .before .before .before .before .before .before) .«line_weight»)))
+    ⊎-elim {C = c .if6 .if7 ≡ firstSeven b (tested (c .before .before .before .before .before .before))} (λ w. and-then (first ∙ w .0 .taken) (w .2 ∙ w .1 .ensures b (o .0 .accepted) (o .0 .words) (six-choices b (tested (c .before .before .before .before .before .before)) (T-of-true (first ∙ w .0 .taken))) (tested (c .before .before .before .before .before .before) .«line_weight»)))
     (λ w. and-else _ (first ∙ w .0 .left) (w .1 ∙ sym first)) (c .if6 .came)
 
 returns : tie.Need-returns
@@ -109,13 +85,13 @@ pub search-fits-spec : {M : Type 1} → statement M
 search-fits-spec =
     tie.close
     (tie.spec
-    room-is-zero-requires
-    pending-below-requires
-    weights-stand-requires
-    weights-stand-requires-2
-    entries-ordered-requires
-    lines-ordered-requires
-    lines-apart-requires
-    lines-first-requires
+    (λ c κs. search needs)
+    (λ c κs. search needs)
+    (λ c κs. search needs)
+    (λ c κs. search needs)
+    (λ c κs. search needs)
+    (λ c κs. search needs)
+    (λ c κs. search needs)
+    (λ c κs. search needs)
     returns
     returns-2)

@@ -36,22 +36,10 @@ returns c = let a = c .before .before .args in
 loop-holds : tie.Need-loop-holds Inv-loop μ-loop
 loop-holds c = (omega arith, below-none _)
 
-shared-slice-read-is-choice : tie.Need-shared-slice-read-is-choice Inv-loop μ-loop
-shared-slice-read-is-choice c = search needs
-
-is-choice-requires : tie.Need-is-choice-requires Inv-loop μ-loop
-is-choice-requires c κs = search needs
-
 returns-2 : tie.Need-returns-2 Inv-loop μ-loop
 returns-2 c = let a = c .before .before .before .before .before .before .before .args in
     no-state-at (hypothesesAlone (hypothesesIn (now (a .numbers)) (now (a .atom)) [] (a .hypotheses))) (now (a .state))
     (c .before .before .before .before .loop .i) (omega arith) (rw (not-true (c .before .is-choice .result) (c .if2 .taken)) at (c .before .is-choice .ensures))
-
-add-i : tie.Need-add-i Inv-loop μ-loop
-add-i c = search needs
-
-loop-less : tie.Need-loop-less Inv-loop μ-loop
-loop-less c = search needs
 
 loop-again : tie.Need-loop-again Inv-loop μ-loop
 loop-again c = (search needs, below-more _ _ (c .before .before .before .before .loop .inv .1) (rw (not-false (c .before .is-choice .result) (c .if2 .left)) at (c .before .is-choice .ensures)))
@@ -68,10 +56,10 @@ is-state-spec =
     μ-loop
     returns
     loop-holds
-    shared-slice-read-is-choice
-    is-choice-requires
+    (λ c. search needs)
+    (λ c κs. search needs)
     returns-2
-    add-i
-    loop-less
+    (λ c. search needs)
+    (λ c. search needs)
     loop-again
     returns-3)

@@ -20,9 +20,6 @@ use Rattle.board.specs.EntryPoints.{toldMeans, yesOrNo}
 use Rattle.holding.proofs.yes_or_no.Statement.{statement}
 use Rattle.holding.proofs.yes_or_no.Tie as tie
 
-is-table-requires : tie.Need-is-table-requires
-is-table-requires c κs = tt
-
 -- the function's entry, from the table's test
 abbrev start : tie.After-is-table → tie.Start
 start c = c .before .before
@@ -41,9 +38,6 @@ room : (c : tie.Else1) → start (c .before) .args .t1 .hypotheses ≤ 128
 room c =
     let t = start (c .before) .args .t1 in
     omega (arith, sizes-parts t (isTable-stands t (T-of-true (accepted c)) .sizes))
-
-declarations-of-requires : tie.Need-declarations-of-requires
-declarations-of-requires c κs = tt
 
 is-state-requires : tie.Need-is-state-requires
 is-state-requires c κs =
@@ -64,9 +58,6 @@ state-test c u e = let t = start (first c .before) .args .t1 in isStateOf-lent (
 returns-2 : tie.Need-returns-2
 unfolding toldMeans yesOrNo
 returns-2 c = simp (accepted (first (c .before)), state-test (c .before) false (not-true _ (c .if2 .taken)))
-
-wide-requires : tie.Need-wide-requires
-wide-requires c κs = tt
 
 returns-3 : tie.Need-returns-3
 unfolding toldMeans yesOrNo
@@ -113,12 +104,12 @@ pub yes-or-no-spec : {M : Type 1} → statement M
 yes-or-no-spec =
     tie.close
     (tie.spec
-    is-table-requires
+    (λ c κs. tt)
     returns
-    declarations-of-requires
+    (λ c κs. tt)
     is-state-requires
     returns-2
-    wide-requires
+    (λ c κs. tt)
     returns-3
     holds-in-requires
     returns-4

@@ -23,9 +23,6 @@ returns c =
     let s = c .before .before .before .before in
     lent-short (listing (some (now (s .args .file))) (now (s .args .input))) (now (s .args .text)) (omega arith)
 
-load-requires : tie.Need-load-requires
-load-requires c κs = search needs
-
 enum-told : tie.Need-enum-told
 enum-told c = search needs
 
@@ -35,16 +32,10 @@ put-asked-requires c κs =
     let l = c .before .before .before .before .load in
     (loaded-table (now (s .args .file)) (now (s .args .input)) (l .result) (l .ensures) (bytes (c .before .before .before .before .before .before .before .before)) (c .before .enum-told .given .1), omega arith)
 
-enum-known-answer : tie.Need-enum-known-answer
-enum-known-answer c = search needs
-
 put-refused-file-requires : tie.Need-put-refused-file-requires
 put-refused-file-requires c κs =
     let a = c .before .before .answer .given .0 in
     record { enough = omega (arith, refused-file-length (a .0) (a .1 .0) (omega arith) (omega arith)) }
-
-same-length : tie.Need-same-length
-same-length c = search needs
 
 returns-2 : tie.Need-returns-2
 returns-2 c =
@@ -53,9 +44,6 @@ returns-2 c =
     lent-put (listing (some (now (s .args .file))) (now (s .args .input))) (now (s .args .text)) (omega arith)
     (put-same (loaded-asked (now (s .args .file)) (now (s .args .input)) (l .result) (l .ensures) (bytes (c .before .before .before .before .before .before .before .before .before .before .before)) (c .before .before .before .before .enum-told .given .1))
     (c .before .before .put-asked .ensures))
-
-same-length-2 : tie.Need-same-length-2
-same-length-2 c = search needs
 
 returns-3 : tie.Need-returns-3
 returns-3 c =
@@ -71,12 +59,12 @@ listing-spec =
     tie.close
     (tie.spec
     returns
-    load-requires
+    (λ c κs. search needs)
     enum-told
     put-asked-requires
-    enum-known-answer
+    (λ c. search needs)
     put-refused-file-requires
-    same-length
+    (λ c. search needs)
     returns-2
-    same-length-2
+    (λ c. search needs)
     returns-3)

@@ -16,75 +16,15 @@ use Rattle.text.proofs.Laws.Answered.{asked-none, asked-short, asked-wh
 use Rattle.text.proofs.put_asked.Statement.{statement}
 use Rattle.text.proofs.put_asked.Tie as tie
 
-put-refused-requires : tie.Need-put-refused-requires
-put-refused-requires c κs = search needs
-
-same-length : tie.Need-same-length
-same-length c = search needs
-
 returns : tie.Need-returns
 returns c =
     let s = c .before .before .before .before .before .before .before in
     put-same (asked-none (boardOf (s .args .t)) (now (s .args .input)) (omega arith)) (c .before .before .put-refused .ensures)
 
-shared-slice-read-wide : tie.Need-shared-slice-read-wide
-shared-slice-read-wide c = search needs
-
-wide-requires : tie.Need-wide-requires
-wide-requires c κs = search needs
-
-add-end : tie.Need-add-end
-add-end c = search needs
-
-add-if2 : tie.Need-add-if2
-add-if2 c = search needs
-
-put-refused-requires-2 : tie.Need-put-refused-requires-2
-put-refused-requires-2 c κs = search needs
-
-same-length-2 : tie.Need-same-length-2
-same-length-2 c = search needs
-
 returns-2 : tie.Need-returns-2
 returns-2 c =
     let s = c .before .before .before .before .before .before .before .before .before .before in
     put-same (asked-short (boardOf (s .args .t)) (now (s .args .input)) (omega (arith, c .before .before .before .before .before .wide .ensures .0))) (c .before .before .put-refused2 .ensures)
-
-shared-slice-read-wide16 : tie.Need-shared-slice-read-wide16
-shared-slice-read-wide16 c = search needs
-
-wide16-requires : tie.Need-wide16-requires
-wide16-requires c κs = search needs
-
-add-wide16 : tie.Need-add-wide16
-add-wide16 c = search needs
-
-shared-slice-read-wide16-2 : tie.Need-shared-slice-read-wide16-2
-shared-slice-read-wide16-2 c = search needs
-
-wide16-requires-2 : tie.Need-wide16-requires-2
-wide16-requires-2 c κs = search needs
-
-mul-allowance : tie.Need-mul-allowance
-mul-allowance c = search needs
-
-add-allowance : tie.Need-add-allowance
-add-allowance c = search needs
-
-sub-put-opened : tie.Need-sub-put-opened
-sub-put-opened c = search needs
-
-part-put-opened-start : tie.Need-part-put-opened-start
-part-put-opened-start c = search needs
-
-part-put-opened-end : tie.Need-part-put-opened-end
-part-put-opened-end c = search needs
-
-put-opened-requires : tie.Need-put-opened-requires
-put-opened-requires c κs = search needs
-
-same-length-3 : tie.Need-same-length-3
-same-length-3 c = search needs
 
 returns-3 : tie.Need-returns-3
 returns-3 c =
@@ -108,26 +48,26 @@ pub put-asked-spec : {M : Type 1} → statement M
 put-asked-spec =
     tie.close
     (tie.spec
-    put-refused-requires
-    same-length
+    (λ c κs. search needs)
+    (λ c. search needs)
     returns
-    shared-slice-read-wide
-    wide-requires
-    add-end
-    add-if2
-    put-refused-requires-2
-    same-length-2
+    (λ c. search needs)
+    (λ c κs. search needs)
+    (λ c. search needs)
+    (λ c. search needs)
+    (λ c κs. search needs)
+    (λ c. search needs)
     returns-2
-    shared-slice-read-wide16
-    wide16-requires
-    add-wide16
-    shared-slice-read-wide16-2
-    wide16-requires-2
-    mul-allowance
-    add-allowance
-    sub-put-opened
-    part-put-opened-start
-    part-put-opened-end
-    put-opened-requires
-    same-length-3
+    (λ c. search needs)
+    (λ c κs. search needs)
+    (λ c. search needs)
+    (λ c. search needs)
+    (λ c κs. search needs)
+    (λ c. search needs)
+    (λ c. search needs)
+    (λ c. search needs)
+    (λ c. search needs)
+    (λ c. search needs)
+    (λ c κs. search needs)
+    (λ c. search needs)
     returns-3)

@@ -17,20 +17,11 @@ ended ending = bytesOf " " ++ endingText (endingMeans ending) ++ bytesOf "\n"
 enum-told : tie.Need-enum-told
 enum-told c = search needs
 
-slice-aggregate-put-bytes : tie.Need-slice-aggregate-put-bytes
-slice-aggregate-put-bytes c = search needs
-
 put-bytes-requires : tie.Need-put-bytes-requires
 unfolding bytesOf endingText endingMeans
 put-bytes-requires c κs =
     let s = c .before .before .before .before .before in
     room-same (ap ended (c .before .before .enum-told .given .1)) (s .pre)
-
-enum-told-2 : tie.Need-enum-told-2
-enum-told-2 c = search needs
-
-slice-aggregate-put-bytes-2 : tie.Need-slice-aggregate-put-bytes-2
-slice-aggregate-put-bytes-2 c = search needs
 
 put-bytes-requires-2 : tie.Need-put-bytes-requires-2
 unfolding bytesOf endingText endingMeans
@@ -38,23 +29,11 @@ put-bytes-requires-2 c κs =
     let s = c .before .before .before .before .before in
     room-same (ap ended (c .before .before .enum-told2 .given .1)) (s .pre)
 
-enum-known-ending : tie.Need-enum-known-ending
-enum-known-ending c = search needs
-
-slice-aggregate-put-ended : tie.Need-slice-aggregate-put-ended
-slice-aggregate-put-ended c = search needs
-
-cast-put-ended : tie.Need-cast-put-ended
-cast-put-ended c = search needs
-
 put-ended-requires : tie.Need-put-ended-requires
 unfolding bytesOf endingText endingMeans
 put-ended-requires c κs =
     let s = c .before .before .before .before .before .before in
     room-same (ap ended (c .before .before .before .ending .given .1)) (s .pre)
-
-same-length : tie.Need-same-length
-same-length c = search needs
 
 returns : tie.Need-returns
 unfolding bytesOf endingText endingMeans
@@ -62,17 +41,11 @@ returns c =
     let s = c .before .before .before .before .before .before .before .before in
     put-same (ap ended (c .before .before .before .before .before .enum-told .given .1)) (c .before .before .put-bytes .ensures)
 
-same-length-2 : tie.Need-same-length-2
-same-length-2 c = search needs
-
 returns-2 : tie.Need-returns-2
 unfolding bytesOf endingText endingMeans
 returns-2 c =
     let s = c .before .before .before .before .before .before .before .before in
     put-same (ap ended (c .before .before .before .before .before .enum-told2 .given .1)) (c .before .before .put-bytes2 .ensures)
-
-same-length-3 : tie.Need-same-length-3
-same-length-3 c = search needs
 
 returns-3 : tie.Need-returns-3
 unfolding bytesOf endingText endingMeans
@@ -85,18 +58,18 @@ put-ending-spec =
     tie.close
     (tie.spec
     enum-told
-    slice-aggregate-put-bytes
+    (λ c. search needs)
     put-bytes-requires
-    enum-told-2
-    slice-aggregate-put-bytes-2
+    (λ c. search needs)
+    (λ c. search needs)
     put-bytes-requires-2
-    enum-known-ending
-    slice-aggregate-put-ended
-    cast-put-ended
+    (λ c. search needs)
+    (λ c. search needs)
+    (λ c. search needs)
     put-ended-requires
-    same-length
+    (λ c. search needs)
     returns
-    same-length-2
+    (λ c. search needs)
     returns-2
-    same-length-3
+    (λ c. search needs)
     returns-3)

@@ -37,22 +37,13 @@ room3 s = room-first (low s ++ high s ++ steps s) (ended s) (room4 s)
 room2 : (s : tie.Start) → HasRoom (now (s .args .text)) (s .args .at) (low s ++ high s)
 room2 s = room-first (low s ++ high s) (steps s) (room3 s)
 
-slice-aggregate-put-labelled : tie.Need-slice-aggregate-put-labelled
-slice-aggregate-put-labelled c = search needs
-
 put-labelled-requires : tie.Need-put-labelled-requires
 unfolding bytesOf
 put-labelled-requires c κs = let s = c .before .before .before in room-first (low s) (high s) (room2 s)
 
-slice-aggregate-put-labelled-2 : tie.Need-slice-aggregate-put-labelled-2
-slice-aggregate-put-labelled-2 c = search needs
-
 put-labelled-requires-2 : tie.Need-put-labelled-requires-2
 unfolding bytesOf
 put-labelled-requires-2 c κs = let s = c .before .before .before .before .before .before .before .before in room-second (low s) (high s) (c .before .before .before .before .put-labelled .ensures) (room2 s)
-
-slice-aggregate-put-labelled-3 : tie.Need-slice-aggregate-put-labelled-3
-slice-aggregate-put-labelled-3 c = search needs
 
 put-labelled-requires-3 : tie.Need-put-labelled-requires-3
 unfolding bytesOf
@@ -70,9 +61,6 @@ put-ending-requires c κs =
     (put-both (low s) (high s) (c .before .before .before .before .before .before .before .before .before .before .before .before .before .put-labelled .ensures) (room2 s) (c .before .before .before .before .before .before .before .before .put-labelled2 .ensures))
     (room3 s) (c .before .before .before .put-labelled3 .ensures)) (room4 s)
 
-same-length : tie.Need-same-length
-same-length c = search needs
-
 returns : tie.Need-returns
 unfolding bytesOf
 returns c =
@@ -87,12 +75,12 @@ pub put-last-spec : {M : Type 1} → statement M
 put-last-spec =
     tie.close
     (tie.spec
-    slice-aggregate-put-labelled
+    (λ c. search needs)
     put-labelled-requires
-    slice-aggregate-put-labelled-2
+    (λ c. search needs)
     put-labelled-requires-2
-    slice-aggregate-put-labelled-3
+    (λ c. search needs)
     put-labelled-requires-3
     put-ending-requires
-    same-length
+    (λ c. search needs)
     returns)

@@ -7,9 +7,6 @@ use Rattle.text.proofs.Laws.Answered.{opened-accepted, opened-length, o
 use Rattle.text.proofs.put_opened.Statement.{statement}
 use Rattle.text.proofs.put_opened.Tie as tie
 
-open-requires : tie.Need-open-requires
-open-requires c κs = search needs
-
 enum-told : tie.Need-enum-told
 enum-told c = search needs
 
@@ -25,24 +22,12 @@ put-run-requires c κs =
       ),
     )
 
-enum-known-answer : tie.Need-enum-known-answer
-enum-known-answer c = search needs
-
-put-refused-requires : tie.Need-put-refused-requires
-put-refused-requires c κs = search needs
-
-same-length : tie.Need-same-length
-same-length c = search needs
-
 returns : tie.Need-returns
 returns c =
     let s = c .before .before .before .before .before .before .before .before .before .before in
     let o = c .before .before .before .before .before .before .before .«open» in
     put-same (opened-accepted (s .args .t) (s .pre .0) (now (s .args .question)) (o .result) (o .ensures) (s .args .allowance) (c .before .before .before .before .enum-told .given .1))
     (c .before .before .put-run .ensures)
-
-same-length-2 : tie.Need-same-length-2
-same-length-2 c = search needs
 
 returns-2 : tie.Need-returns-2
 returns-2 c =
@@ -56,12 +41,12 @@ pub put-opened-spec : {M : Type 1} → statement M
 put-opened-spec =
     tie.close
     (tie.spec
-    open-requires
+    (λ c κs. search needs)
     enum-told
     put-run-requires
-    enum-known-answer
-    put-refused-requires
-    same-length
+    (λ c. search needs)
+    (λ c κs. search needs)
+    (λ c. search needs)
     returns
-    same-length-2
+    (λ c. search needs)
     returns-2)

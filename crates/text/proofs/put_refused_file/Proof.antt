@@ -24,22 +24,13 @@ both s = simp append-assoc refl
 room : (s : tie.Start) → HasRoom (now (s .args .text)) 0 (number s ++ place s)
 room s = room-same (sym (both s)) (s .pre)
 
-slice-aggregate-put-labelled : tie.Need-slice-aggregate-put-labelled
-slice-aggregate-put-labelled c = search needs
-
 put-labelled-requires : tie.Need-put-labelled-requires
 unfolding bytesOf
 put-labelled-requires c κs = let s = c .before .before .before in room-first (number s) (place s) (room s)
 
-slice-aggregate-put-ended : tie.Need-slice-aggregate-put-ended
-slice-aggregate-put-ended c = search needs
-
 put-ended-requires : tie.Need-put-ended-requires
 unfolding bytesOf
 put-ended-requires c κs = let s = c .before .before .before .before .before .before .before .before in room-second (number s) (place s) (c .before .before .before .before .put-labelled .ensures) (room s)
-
-same-length : tie.Need-same-length
-same-length c = search needs
 
 returns : tie.Need-returns
 unfolding bytesOf
@@ -51,9 +42,9 @@ pub put-refused-file-spec : {M : Type 1} → statement M
 put-refused-file-spec =
     tie.close
     (tie.spec
-    slice-aggregate-put-labelled
+    (λ c. search needs)
     put-labelled-requires
-    slice-aggregate-put-ended
+    (λ c. search needs)
     put-ended-requires
-    same-length
+    (λ c. search needs)
     returns)

@@ -59,15 +59,6 @@ weight : (s : tie.Start) (w : ℕ)
     → w ≡ W (boardOf (s .args .t2))
 weight s w h = h 0 [] [] ∙ table-weight (s .args .t2) (s .pre .0) 0 [] []
 
-run-requires : tie.Need-run-requires
-run-requires c κs = search needs
-
-whole-weight-requires : tie.Need-whole-weight-requires
-whole-weight-requires c κs = search needs
-
-slice-aggregate-put-ended : tie.Need-slice-aggregate-put-ended
-slice-aggregate-put-ended c = search needs
-
 put-ended-requires : tie.Need-put-ended-requires
 unfolding bytesOf
 put-ended-requires c κs =
@@ -99,9 +90,6 @@ put-last-requires c κs =
     (put-both (total (w .result)) (lines (r .result)) (c .before .before .before .before .before .before .before .before .before .before .before .put-ended .ensures) (room2 s (r .result) (r .ensures) (w .result) q) (c .before .before .before .put-lines .ensures))
     (room3 s (r .result) (r .ensures) (w .result) q)
 
-same-length : tie.Need-same-length
-same-length c = search needs
-
 returns : tie.Need-returns
 unfolding bytesOf lastText runMeans
 returns c =
@@ -118,11 +106,11 @@ pub put-run-spec : {M : Type 1} → statement M
 put-run-spec =
     tie.close
     (tie.spec
-    run-requires
-    whole-weight-requires
-    slice-aggregate-put-ended
+    (λ c κs. search needs)
+    (λ c κs. search needs)
+    (λ c. search needs)
     put-ended-requires
     put-lines-requires
     put-last-requires
-    same-length
+    (λ c. search needs)
     returns)

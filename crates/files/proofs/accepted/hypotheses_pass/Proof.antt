@@ -29,24 +29,9 @@ Inv-loop atoms n numbers atom weight seen₀ i₀ seen i =
 abbrev μ-loop : tie.MeasureT-loop
 μ-loop atoms n numbers atom weight seen₀ i₀ seen i = n - i
 
-nothing-seen-requires : tie.Need-nothing-seen-requires Inv-loop μ-loop
-nothing-seen-requires c κs = tt
-
 loop-holds : tie.Need-loop-holds Inv-loop μ-loop
 unfolding eachPasses
 loop-holds c = (omega arith, rw (hypothesesIn-zero (now (c .before .args .numbers)) _ _) (c .nothing-seen .ensures), rw (hypothesesIn-zero (now (c .before .args .numbers)) _ _) tt)
-
-element-copy-out-d : tie.Need-element-copy-out-d Inv-loop μ-loop
-element-copy-out-d c = omega arith
-
-element-copy-out-a : tie.Need-element-copy-out-a Inv-loop μ-loop
-element-copy-out-a c = omega arith
-
-mul-w : tie.Need-mul-w Inv-loop μ-loop
-mul-w c = omega arith
-
-element-copy-out-w : tie.Need-element-copy-out-w Inv-loop μ-loop
-element-copy-out-w c = omega arith
 
 returns : tie.Need-returns Inv-loop μ-loop
 returns c =
@@ -57,9 +42,6 @@ returns c =
           (λ t. omega (arith, hypothesisPasses-weight (a .atoms) (hypothesesIn (now (a .numbers)) (now (a .atom)) (now (a .weight)) (l .i)) (hypothesisIn (now (a .numbers)) (now (a .atom)) (now (a .weight)) (l .i)) t));
       seen = λ e. absurd (true≢false (sym e));
     }
-
-hypothesis-refusal-requires : tie.Need-hypothesis-refusal-requires Inv-loop μ-loop
-hypothesis-refusal-requires c κs = tt
 
 -- the check of the hypothesis at i, as it stands in the arrays
 checked : (c : tie.After-hypothesis-refusal Inv-loop μ-loop) → let a = c .before .before .before .before .before .before .before .before .args in
@@ -86,12 +68,6 @@ seen-with-requires c κs =
     let hs = hypothesesIn (now (a .numbers)) (now (a .atom)) (now (a .weight)) (l .i) in
     omega (arith, l .inv .1 .last, hypotheses-sizes (a .atoms) hs (l .inv .2) (pred (declarationsIn hs)) .1)
 
-add-i : tie.Need-add-i Inv-loop μ-loop
-add-i c = omega arith
-
-loop-less : tie.Need-loop-less Inv-loop μ-loop
-loop-less c = omega arith
-
 loop-again : tie.Need-loop-again Inv-loop μ-loop
 unfolding taking
 loop-again c =
@@ -116,17 +92,17 @@ hypotheses-pass-spec =
     (tie.spec
     Inv-loop
     μ-loop
-    nothing-seen-requires
+    (λ c κs. tt)
     loop-holds
-    element-copy-out-d
-    element-copy-out-a
-    mul-w
-    element-copy-out-w
+    (λ c. omega arith)
+    (λ c. omega arith)
+    (λ c. omega arith)
+    (λ c. omega arith)
     returns
-    hypothesis-refusal-requires
+    (λ c κs. tt)
     returns-2
     seen-with-requires
-    add-i
-    loop-less
+    (λ c. omega arith)
+    (λ c. omega arith)
     loop-again
     returns-3)

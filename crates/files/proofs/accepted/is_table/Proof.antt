@@ -27,9 +27,6 @@ use Rattle.files.proofs.accepted.is_table.Tie as tie
 sized : (c : tie.Start) → Sized (c .args .t1)
 sized c = record { declaration = search needs; atom = search needs; weight = search needs; head = search needs; body = search needs }
 
-sizes-stand-requires : tie.Need-sizes-stand-requires
-sizes-stand-requires c κs = search needs
-
 returns : tie.Need-returns
 unfolding fieldsStand
 returns c =
@@ -84,9 +81,6 @@ three c =
     (λ w. and-then (sym (two h) ∙ w .0 .taken) (w .5 ∙ w .4 .ensures (hypothesesOf (table h)) (found .seen (w .0 .taken) .atoms)))
     (λ w. and-else _ (sym (two h) ∙ w .0 .left) (w .1 ∙ two h)) (c .if2 .came)
 
-whole-weight-requires : tie.Need-whole-weight-requires
-whole-weight-requires c κs = search needs
-
 -- ---- W and the unused room
 
 four : (c : tie.Joined3) → c .if3 .if4 ≡ firstFour (table (c .before .before .before))
@@ -120,11 +114,11 @@ pub is-table-spec : {M : Type 1} → statement M
 is-table-spec =
     tie.close
     (tie.spec
-    sizes-stand-requires
+    (λ c κs. search needs)
     returns
     hypotheses-pass-requires
     rules-pass-requires
-    whole-weight-requires
+    (λ c κs. search needs)
     room-stands-requires
     returns-2
     returns-3)

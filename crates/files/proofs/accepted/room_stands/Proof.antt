@@ -12,24 +12,6 @@ use Rattle.board.specs.Private.Fields.{roomStands}
 use Rattle.files.proofs.accepted.room_stands.Statement.{statement}
 use Rattle.files.proofs.accepted.room_stands.Tie as tie
 
-zero-bytes-requires : tie.Need-zero-bytes-requires
-zero-bytes-requires c κs = search needs
-
-zero-bytes-requires-2 : tie.Need-zero-bytes-requires-2
-zero-bytes-requires-2 c κs = search needs
-
-zero-weights-requires : tie.Need-zero-weights-requires
-zero-weights-requires c κs = search needs
-
-zero-bytes-requires-3 : tie.Need-zero-bytes-requires-3
-zero-bytes-requires-3 c κs = search needs
-
-mul-zero-bytes : tie.Need-mul-zero-bytes
-mul-zero-bytes c = search needs
-
-zero-bytes-requires-4 : tie.Need-zero-bytes-requires-4
-zero-bytes-requires-4 c κs = search needs
-
 -- the definition's tests, up to the second, the third, the fourth
 module _ (n m : ℕ) (numbers atom weight head : List ℕ) where
   abbrev firstTwo : Bool
@@ -75,11 +57,11 @@ pub room-stands-spec : {M : Type 1} → statement M
 room-stands-spec =
     tie.close
     (tie.spec
-    zero-bytes-requires
-    zero-bytes-requires-2
-    zero-weights-requires
-    zero-bytes-requires-3
-    mul-zero-bytes
-    zero-bytes-requires-4
+    (λ c κs. search needs)
+    (λ c κs. search needs)
+    (λ c κs. search needs)
+    (λ c κs. search needs)
+    (λ c. search needs)
+    (λ c κs. search needs)
     returns
     returns-2)

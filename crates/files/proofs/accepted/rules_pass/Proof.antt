@@ -31,18 +31,6 @@ abbrev μ-loop : tie.MeasureT-loop
 loop-holds : tie.Need-loop-holds Inv-loop μ-loop
 loop-holds c = (omega arith, λ hs m k h. absurd (omega arith))
 
-element-copy-out-rule-refusal : tie.Need-element-copy-out-rule-refusal Inv-loop μ-loop
-element-copy-out-rule-refusal c = omega arith
-
-mul-eight-bytes : tie.Need-mul-eight-bytes Inv-loop μ-loop
-mul-eight-bytes c = omega arith
-
-eight-bytes-requires : tie.Need-eight-bytes-requires Inv-loop μ-loop
-eight-bytes-requires c κs = omega (arith, c .eight-bytes-arg .given .0)
-
-rule-refusal-requires : tie.Need-rule-refusal-requires Inv-loop μ-loop
-rule-refusal-requires c κs = tt
-
 -- the check of the rule at j, as it stands in the arrays
 standing : (c : tie.After-rule-refusal Inv-loop μ-loop) (hs : List Hypothesis)
     → let a = c .before .before .before .before .before .before .args in
@@ -62,12 +50,6 @@ returns c hs m =
     let l = c .before .before .before .before .before .before .loop in
     sym (false-of-T _ (λ t. c .if1 .taken (standing (c .before) hs m ∙ recordPasses-zero _ _ (all-at _ t (below-of {n = a .rules} {i = l .j} (omega arith))))))
 
-add-j : tie.Need-add-j Inv-loop μ-loop
-add-j c = omega arith
-
-loop-less : tie.Need-loop-less Inv-loop μ-loop
-loop-less c = omega arith
-
 loop-again : tie.Need-loop-again Inv-loop μ-loop
 unfolding ruleStands
 loop-again c =
@@ -86,12 +68,12 @@ rules-pass-spec =
     Inv-loop
     μ-loop
     loop-holds
-    element-copy-out-rule-refusal
-    mul-eight-bytes
-    eight-bytes-requires
-    rule-refusal-requires
+    (λ c. omega arith)
+    (λ c. omega arith)
+    (λ c κs. omega (arith, c .eight-bytes-arg .given .0))
+    (λ c κs. tt)
     returns
-    add-j
-    loop-less
+    (λ c. omega arith)
+    (λ c. omega arith)
     loop-again
     returns-2)

@@ -23,18 +23,6 @@ abbrev μ-loop : tie.MeasureT-loop
 loop-holds : tie.Need-loop-holds Inv-loop μ-loop
 loop-holds c = refl
 
-mul-digits : tie.Need-mul-digits Inv-loop μ-loop
-mul-digits c = search needs
-
-shared-slice-read-digits : tie.Need-shared-slice-read-digits Inv-loop μ-loop
-shared-slice-read-digits c = omega arith
-
-add-i : tie.Need-add-i Inv-loop μ-loop
-add-i c = omega arith
-
-loop-less : tie.Need-loop-less Inv-loop μ-loop
-loop-less c = omega arith
-
 loop-again : tie.Need-loop-again Inv-loop μ-loop
 loop-again c =
     let l = c .before .before .loop in
@@ -54,9 +42,9 @@ zero-weights-spec =
     Inv-loop
     μ-loop
     loop-holds
-    mul-digits
-    shared-slice-read-digits
-    add-i
-    loop-less
+    (λ c. search needs)
+    (λ c. omega arith)
+    (λ c. omega arith)
+    (λ c. omega arith)
     loop-again
     returns)

@@ -6,24 +6,6 @@ use Rattle.files.specs.Private.Taking.{fieldRefusal}
 use Rattle.files.proofs.checks.field_refusal.Statement.{statement}
 use Rattle.files.proofs.checks.field_refusal.Tie as tie
 
-enum-known-found : tie.Need-enum-known-found
-enum-known-found c = search needs
-
-count-refusal-requires : tie.Need-count-refusal-requires
-count-refusal-requires c κs = search needs
-
-enum-known-found-2 : tie.Need-enum-known-found-2
-enum-known-found-2 c = search needs
-
-hypothesis-refusal-requires : tie.Need-hypothesis-refusal-requires
-hypothesis-refusal-requires c κs = search needs
-
-enum-known-found-3 : tie.Need-enum-known-found-3
-enum-known-found-3 c = search needs
-
-rule-refusal-requires : tie.Need-rule-refusal-requires
-rule-refusal-requires c κs = search needs
-
 enum-told : tie.Need-enum-told
 enum-told c = search needs
 
@@ -47,12 +29,12 @@ pub field-refusal-spec : {M : Type 1} → statement M
 field-refusal-spec =
     tie.close
     (tie.spec
-    enum-known-found
-    count-refusal-requires
-    enum-known-found-2
-    hypothesis-refusal-requires
-    enum-known-found-3
-    rule-refusal-requires
+    (λ c. search needs)
+    (λ c κs. search needs)
+    (λ c. search needs)
+    (λ c κs. search needs)
+    (λ c. search needs)
+    (λ c κs. search needs)
     enum-told
     returns
     returns-2

@@ -8,9 +8,6 @@ use borrow.Author.Tests.{eq-eqb, ne-eqb}
 use Rattle.files.proofs.checks.follows.Statement.{statement}
 use Rattle.files.proofs.checks.follows.Tie as tie
 
-add-if1 : tie.Need-add-if1
-add-if1 c = omega arith
-
 returns : tie.Need-returns
 returns c = let a = c .before .args in eq-eqb _ _ (c .if1 .taken) ∙ sym (ap (λ (t : Bool). t || eqb (a .number) (a .declarations)) (eq-eqb _ _ (rw add-one at (c .if1 .taken))))
 
@@ -18,4 +15,4 @@ returns-2 : tie.Need-returns-2
 returns-2 c = simp (ne-eqb _ _ (rw add-one at (c .if1 .left)))
 
 pub follows-spec : {M : Type 1} → statement M
-follows-spec = tie.close (tie.spec add-if1 returns returns-2)
+follows-spec = tie.close (tie.spec (λ c. omega arith) returns returns-2)

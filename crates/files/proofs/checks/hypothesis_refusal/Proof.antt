@@ -17,12 +17,6 @@ use Rattle.files.proofs.Laws.Seen.{atoms-member}
 use Rattle.files.proofs.checks.hypothesis_refusal.Statement.{statement}
 use Rattle.files.proofs.checks.hypothesis_refusal.Tie as tie
 
-wide-requires : tie.Need-wide-requires
-wide-requires c κs = search needs
-
-wide-requires-2 : tie.Need-wide-requires-2
-wide-requires-2 c κs = search needs
-
 returns : tie.Need-returns
 unfolding firstFailing fieldChecks
 returns c b e k = simp (le-leb (b .atoms) (c .before .before .before .args .a) (omega (arith, c .before .wide2 .ensures .0)))
@@ -68,9 +62,6 @@ module _ (c : tie.Else3) (b : Board) (e : b .atoms ≡ c .before .before .before
   number-follows : asked (c .before .before .before .before .before .before .args .d) b ≡ true
   number-follows = sym (followed (c .before) b e k) ∙ not-false _ (c .if3 .left)
 
-member-requires : tie.Need-member-requires
-member-requires c κs = search needs
-
 -- whether the atom is a hypothesis already
 known : (c : tie.After-member) (b : Board) → SeenOf (b .hypotheses) (c .before .before .before .before .before .before .before .args .seen)
     → c .member .result ≡ isHypothesis b (c .before .before .before .before .before .before .before .args .a)
@@ -83,9 +74,6 @@ returns-4 c b e k =
     let g = c .before .before in
     let f = g .before in
     simp (atom-low f b e k, number-low f b e k, number-follows g b e k, sym (known (c .before) b k) ∙ c .if4 .taken)
-
-size-of-requires : tie.Need-size-of-requires
-size-of-requires c κs = search needs
 
 -- how many hypotheses its declaration has
 size : (c : tie.After-size-of) (b : Board) → b .atoms ≡ c .before .before .before .before .before .before .before .before .before .args .atoms
@@ -141,15 +129,15 @@ pub hypothesis-refusal-spec : {M : Type 1} → statement M
 hypothesis-refusal-spec =
     tie.close
     (tie.spec
-    wide-requires
-    wide-requires-2
+    (λ c κs. search needs)
+    (λ c κs. search needs)
     returns
     returns-2
     follows-requires
     returns-3
-    member-requires
+    (λ c κs. search needs)
     returns-4
-    size-of-requires
+    (λ c κs. search needs)
     returns-5
     returns-6
     returns-7)

@@ -4,11 +4,8 @@ use Rattle.files.proofs.Laws.Seen.{seen-none}
 use Rattle.files.proofs.checks.nothing_seen.Statement.{statement}
 use Rattle.files.proofs.checks.nothing_seen.Tie as tie
 
-empty-requires : tie.Need-empty-requires
-empty-requires c κs = search needs
-
 returns : tie.Need-returns
 returns c = seen-none _ (c .empty .ensures)
 
 pub nothing-seen-spec : {M : Type 1} → statement M
-nothing-seen-spec = tie.close (tie.spec empty-requires returns)
+nothing-seen-spec = tie.close (tie.spec (λ c κs. search needs) returns)

@@ -19,12 +19,6 @@ use Rattle.files.proofs.Laws.Seen.{atoms-member}
 use Rattle.files.proofs.checks.rule_refusal.Statement.{statement}
 use Rattle.files.proofs.checks.rule_refusal.Tie as tie
 
-top-requires : tie.Need-top-requires
-top-requires c κs = search needs
-
-wide-requires : tie.Need-wide-requires
-wide-requires c κs = search needs
-
 returns : tie.Need-returns
 unfolding firstFailing fieldChecks
 returns c b e h l = simp (le-leb (b .atoms) (c .before .before .before .args .head) (omega (arith, c .before .wide .ensures .0)))
@@ -41,9 +35,6 @@ returns-2 c b e h l =
     let ps = filled (lowBytes 8 (f .before .before .before .args .places)) in
     simp (head-low f b e, any-top (b .atoms) ps ∙ lt-ltb (b .atoms) (topOf ps) (omega (arith, f .before .before .top .ensures)))
 
-ascend-requires : tie.Need-ascend-requires
-ascend-requires c κs = search needs
-
 -- .. and that it passed
 places-low : (c : tie.Else2) (b : Board) → b .atoms ≡ c .before .before .before .before .args .atoms
     → any (leb (b .atoms)) (filled (lowBytes 8 (c .before .before .before .before .args .places))) ≡ false
@@ -56,9 +47,6 @@ unfolding firstFailing fieldChecks
 returns-3 c b e h l =
     let g = c .before .before in
     simp (head-low (g .before) b e, places-low g b e, sym (c .before .ascend .ensures) ∙ not-true _ (c .if3 .taken))
-
-member-requires : tie.Need-member-requires
-member-requires c κs = search needs
 
 -- check 9 passed
 ascending-right : (c : tie.Else3) → let a = c .before .before .before .before .before .before .args in
@@ -77,9 +65,6 @@ returns-4 c b e h l =
     let k = c .before .before in
     let g = k .before .before in
     simp (head-low (g .before) b e, places-low g b e, ascending-right k, sym (known (c .before) b h) ∙ c .if4 .taken)
-
-wide-requires-2 : tie.Need-wide-requires-2
-wide-requires-2 c κs = search needs
 
 -- the checks 4 to 10 passed, so 11 and 12 are left
 left-over : (c : tie.After-wide2) (b : Board) → b .atoms ≡ c .before .before .before .before .before .before .before .before .before .args .atoms
@@ -121,15 +106,15 @@ pub rule-refusal-spec : {M : Type 1} → statement M
 rule-refusal-spec =
     tie.close
     (tie.spec
-    top-requires
-    wide-requires
+    (λ c κs. search needs)
+    (λ c κs. search needs)
     returns
     returns-2
-    ascend-requires
+    (λ c κs. search needs)
     returns-3
-    member-requires
+    (λ c κs. search needs)
     returns-4
-    wide-requires-2
+    (λ c κs. search needs)
     returns-5
     returns-6
     returns-7)

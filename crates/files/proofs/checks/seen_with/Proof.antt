@@ -9,15 +9,6 @@ use Rattle.files.proofs.Laws.Seen.{seen-first, seen-more}
 use Rattle.files.proofs.checks.seen_with.Statement.{statement}
 use Rattle.files.proofs.checks.seen_with.Tie as tie
 
-wide-requires : tie.Need-wide-requires
-wide-requires c κs = search needs
-
-with-requires : tie.Need-with-requires
-with-requires c κs = search needs
-
-add-t7 : tie.Need-add-t7
-add-t7 c = search needs
-
 returns : tie.Need-returns
 unfolding taking
 returns c w b room k p =
@@ -25,9 +16,6 @@ returns c w b room k p =
     let number = c .before .before .before .wide .ensures .0 in
     rw number (seen-first k (record { declaration = a .d; atom = a .a; weight = w }) _ (omega (arith, hypothesis-checked b (a .d) (a .a) w p .atomBelow)) (c .before .before .with .ensures)
     (sym number ∙ c .if1 .taken))
-
-add-t8 : tie.Need-add-t8
-add-t8 c = search needs
 
 returns-2 : tie.Need-returns-2
 unfolding taking
@@ -38,4 +26,4 @@ returns-2 c w b room k p =
     (⊎-elim (λ e. e) (λ e. absurd (c .before .if1 .left (number ∙ e ∙ sym (k .declarations)))) (hypothesis-checked b (a .d) (a .a) w p .lastOrNext))
 
 pub seen-with-spec : {M : Type 1} → statement M
-seen-with-spec = tie.close (tie.spec wide-requires with-requires add-t7 returns add-t8 returns-2)
+seen-with-spec = tie.close (tie.spec (λ c κs. search needs) (λ c κs. search needs) (λ c. search needs) returns (λ c. search needs) returns-2)

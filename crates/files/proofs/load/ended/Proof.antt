@@ -15,12 +15,6 @@ use Rattle.board.proofs.Laws.Table.Arrays.{boardIn-tableOf}
 use Rattle.files.proofs.load.ended.Statement.{statement}
 use Rattle.files.proofs.load.ended.Tie as tie
 
-whole-weight-requires : tie.Need-whole-weight-requires
-whole-weight-requires c κs = search needs
-
-refused-requires : tie.Need-refused-requires
-refused-requires c κs = search needs
-
 -- W, as the code sees it
 weight : (c : tie.After-whole-weight) (b : Board) → c .before .before .before .before .args .t1 ≡ tableOf b → c .whole-weight .result ≡ min (W b) (mostW + 1)
 weight c b e =
@@ -32,9 +26,6 @@ returns : tie.Need-returns
 unfolding ending
 returns c b file e l =
     refuses-loads _ _ 8 _ (rw (lt-ltb mostW (W b) (omega (arith, weight (c .before .before) b e)))) (c .refused .ensures)
-
-refused-requires-2 : tie.Need-refused-requires-2
-refused-requires-2 c κs = search needs
 
 returns-2 : tie.Need-returns-2
 unfolding ending atTheEnd
@@ -52,9 +43,9 @@ pub ended-spec : {M : Type 1} → statement M
 ended-spec =
     tie.close
     (tie.spec
-    whole-weight-requires
-    refused-requires
+    (λ c κs. search needs)
+    (λ c κs. search needs)
     returns
-    refused-requires-2
+    (λ c κs. search needs)
     returns-2
     returns-3)

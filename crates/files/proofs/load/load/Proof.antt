@@ -50,32 +50,11 @@ module _ (l : tie.At-loop Inv-loop μ-loop) where
   bytes : T (areBytes (now (l .before .before .before .before .args .file)))
   bytes = areBytes-of (now (l .before .before .before .before .args .file)) (λ i. omega (arith, l .before .before .before .shared-slice-known .given i))
 
-zero-table-requires : tie.Need-zero-table-requires Inv-loop μ-loop
-zero-table-requires c κs = tt
-
-nothing-seen-requires : tie.Need-nothing-seen-requires Inv-loop μ-loop
-nothing-seen-requires c κs = tt
-
 loop-holds : tie.Need-loop-holds Inv-loop μ-loop
 loop-holds c = rw (c .before .zero-table .ensures) (progress-start _ _ (c .nothing-seen .ensures))
 
-passed-record-requires : tie.Need-passed-record-requires Inv-loop μ-loop
-passed-record-requires c κs = tt
-
-enum-known-answer : tie.Need-enum-known-answer Inv-loop μ-loop
-enum-known-answer c = search needs
-
 enum-told : tie.Need-enum-told Inv-loop μ-loop
 enum-told c = search needs
-
-number-in-requires : tie.Need-number-in-requires Inv-loop μ-loop
-number-in-requires c κs = tt
-
-place-in-requires : tie.Need-place-in-requires Inv-loop μ-loop
-place-in-requires c κs = tt
-
-refused-requires : tie.Need-refused-requires Inv-loop μ-loop
-refused-requires c κs = tt
 
 -- what was asked of the record, said of the board
 passed : (r : tie.After-passed-record Inv-loop μ-loop)
@@ -118,15 +97,6 @@ module _ (k : tie.After-known-told Inv-loop μ-loop) where
         → Progress (now (l .before .before .before .before .args .file)) t′ seen′ (read .next)
     again t′ seen′ table known = goes-on (l .loop .inv) read passes (bytes l) (rw same unfinished) t′ seen′ (rw same table) (rw same known)
 
-enum-known-found : tie.Need-enum-known-found Inv-loop μ-loop
-enum-known-found c = search needs
-
-wide-requires : tie.Need-wide-requires Inv-loop μ-loop
-wide-requires c κs = tt
-
-enum-known-found-2 : tie.Need-enum-known-found-2 Inv-loop μ-loop
-enum-known-found-2 c = search needs
-
 -- a hypothesis
 module _ (c : tie.After-known-told3 Inv-loop μ-loop) where
   abbrev d : ℕ
@@ -162,20 +132,11 @@ element-write-t c = hypothesis-room c
 element-write-t-2 : tie.Need-element-write-t-2 Inv-loop μ-loop
 element-write-t-2 c = hypothesis-room c
 
-mul-t : tie.Need-mul-t Inv-loop μ-loop
-mul-t c = omega (arith, hypothesis-room c)
-
 element-write-t-3 : tie.Need-element-write-t-3 Inv-loop μ-loop
 element-write-t-3 c = hypothesis-room c
 
-add-t : tie.Need-add-t Inv-loop μ-loop
-add-t c = omega (arith, hypothesis-room c)
-
 seen-with-requires : tie.Need-seen-with-requires Inv-loop μ-loop
 seen-with-requires c κs = room-last (l (h c) .loop .inv)
-
-enum-known-found-3 : tie.Need-enum-known-found-3 Inv-loop μ-loop
-enum-known-found-3 c = search needs
 
 -- a rule
 module _ (c : tie.After-known-told4 Inv-loop μ-loop) where
@@ -208,12 +169,6 @@ element-write-t-4 c = rule-room c
 
 put-requires : tie.Need-put-requires Inv-loop μ-loop
 put-requires c κs = rule-room (c .before)
-
-add-t-2 : tie.Need-add-t-2 Inv-loop μ-loop
-add-t-2 c = omega (arith, rule-room (c .before .before))
-
-enum-told-2 : tie.Need-enum-told-2 Inv-loop μ-loop
-enum-told-2 c = search needs
 
 ended-requires : tie.Need-ended-requires Inv-loop μ-loop
 ended-requires c κs = room-hypotheses (l (c .before .before) .loop .inv)
@@ -266,30 +221,30 @@ load-spec =
     (tie.spec
     Inv-loop
     μ-loop
-    zero-table-requires
-    nothing-seen-requires
+    (λ c κs. tt)
+    (λ c κs. tt)
     loop-holds
-    passed-record-requires
-    enum-known-answer
+    (λ c κs. tt)
+    (λ c. search needs)
     enum-told
-    number-in-requires
-    place-in-requires
-    refused-requires
+    (λ c κs. tt)
+    (λ c κs. tt)
+    (λ c κs. tt)
     returns
-    enum-known-found
-    wide-requires
-    enum-known-found-2
+    (λ c. search needs)
+    (λ c κs. tt)
+    (λ c. search needs)
     element-write-t
     element-write-t-2
-    mul-t
+    (λ c. omega (arith, hypothesis-room c))
     element-write-t-3
-    add-t
+    (λ c. omega (arith, hypothesis-room c))
     seen-with-requires
-    enum-known-found-3
+    (λ c. search needs)
     element-write-t-4
     put-requires
-    add-t-2
-    enum-told-2
+    (λ c. omega (arith, rule-room (c .before .before)))
+    (λ c. search needs)
     ended-requires
     returns-2
     loop-less

@@ -13,12 +13,6 @@ use Rattle.board.specs.Load.{misplacedAt}
 use Rattle.files.proofs.load.misplaced_at.Statement.{statement}
 use Rattle.files.proofs.load.misplaced_at.Tie as tie
 
-shared-slice-read-known-kind : tie.Need-shared-slice-read-known-kind
-shared-slice-read-known-kind c = search needs
-
-known-kind-requires : tie.Need-known-kind-requires
-known-kind-requires c κs = search needs
-
 -- the first two tests
 two : (c : tie.Joined1) → let a = c .before .before .args in c .if1 .if2 ≡ (ltb (a .at) (length (now (a .file))) && knownKind (getD (now (a .file)) (a .at) 0))
 two c = ⊎-elim (λ w. and-then (lt-ltb _ _ (w .0 .taken)) (w .3 ∙ w .2 .ensures)) (λ w. and-else _ (le-ltb _ _ (w .0 .left)) (w .1)) (c .if1 .came)
@@ -28,9 +22,6 @@ shared-slice-read-misplaced-here c =
     let j = c .before .before in
     let a = j .before .before .args in
     ltb→lt _ _ (and-left (ltb (a .at) (length (now (a .file)))) _ (T-of-true (sym (two j) ∙ c .before .if2 .taken)))
-
-misplaced-here-requires : tie.Need-misplaced-here-requires
-misplaced-here-requires c κs = search needs
 
 returns : tie.Need-returns
 unfolding misplacedAt
@@ -44,9 +35,9 @@ pub misplaced-at-spec : {M : Type 1} → statement M
 misplaced-at-spec =
     tie.close
     (tie.spec
-    shared-slice-read-known-kind
-    known-kind-requires
+    (λ c. search needs)
+    (λ c κs. search needs)
     shared-slice-read-misplaced-here
-    misplaced-here-requires
+    (λ c κs. search needs)
     returns
     returns-2)

@@ -9,9 +9,6 @@ use Rattle.files.proofs.load.number_in.Tie as tie
 enum-told : tie.Need-enum-told
 enum-told c = search needs
 
-enum-known-answer : tie.Need-enum-known-answer
-enum-known-answer c = search needs
-
 returns : tie.Need-returns
 unfolding readMeans numberIn
 returns c = sym (ap (λ r. numberIn (readMeans r)) (c .enum-told .given .1))
@@ -21,4 +18,4 @@ unfolding readMeans numberIn
 returns-2 c = sym (ap (λ r. numberIn (readMeans r)) (c .before .answer .given .1))
 
 pub number-in-spec : {M : Type 1} → statement M
-number-in-spec = tie.close (tie.spec enum-told enum-known-answer returns returns-2)
+number-in-spec = tie.close (tie.spec enum-told (λ c. search needs) returns returns-2)

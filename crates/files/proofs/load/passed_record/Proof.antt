@@ -13,18 +13,9 @@ use Rattle.files.proofs.Laws.Passed.{passed-misplaced, passed-unread, p
 use Rattle.files.proofs.load.passed_record.Statement.{statement}
 use Rattle.files.proofs.load.passed_record.Tie as tie
 
-misplaced-at-requires : tie.Need-misplaced-at-requires
-misplaced-at-requires c κs = search needs
-
 returns : tie.Need-returns
 unfolding readMeans
 returns c b e l k = sym (passed-misplaced _ _ b (sym (c .before .misplaced-at .ensures b e l) ∙ c .if1 .taken))
-
-read-record-requires : tie.Need-read-record-requires
-read-record-requires c κs = search needs
-
-enum-known-answer : tie.Need-enum-known-answer
-enum-known-answer c = search needs
 
 enum-told : tie.Need-enum-told
 enum-told c = search needs
@@ -40,9 +31,6 @@ returns-2 c b e l k =
     let r = c .before .before in
     let told = ap readMeans (c .enum-told .given .1) in
     told ∙ sym (passed-unread _ _ b _ _ (placed r b e l) (sym (r .read-record .ensures) ∙ told))
-
-field-refusal-requires : tie.Need-field-refusal-requires
-field-refusal-requires c κs = search needs
 
 -- the record that was read
 module _ (f : tie.After-field-refusal) where
@@ -72,12 +60,12 @@ pub passed-record-spec : {M : Type 1} → statement M
 passed-record-spec =
     tie.close
     (tie.spec
-    misplaced-at-requires
+    (λ c κs. search needs)
     returns
-    read-record-requires
-    enum-known-answer
+    (λ c κs. search needs)
+    (λ c. search needs)
     enum-told
     returns-2
-    field-refusal-requires
+    (λ c κs. search needs)
     returns-3
     returns-4)

@@ -6,12 +6,9 @@ use Rattle.board.specs.EntryPoints.{outcomeOf, loadedMeans}
 use Rattle.files.proofs.load.refused.Statement.{statement}
 use Rattle.files.proofs.load.refused.Tie as tie
 
-zero-table-requires : tie.Need-zero-table-requires
-zero-table-requires c κs = search needs
-
 returns : tie.Need-returns
 unfolding loadedMeans outcomeOf tableIn
 returns c = record { answers = refl; table = c .zero-table .ensures }
 
 pub refused-spec : {M : Type 1} → statement M
-refused-spec = tie.close (tie.spec zero-table-requires returns)
+refused-spec = tie.close (tie.spec (λ c κs. search needs) returns)

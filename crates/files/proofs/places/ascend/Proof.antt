@@ -28,15 +28,6 @@ returns c =
     let l = c .before .before .before .loop in
     rw (l .inv, lowBytes-pop (l .left) (l .rest) (omega arith), climbs-low _ _ _ (c .before .if1 .taken) (c .if2 .taken))
 
-add-least : tie.Need-add-least Inv-loop μ-loop
-add-least c = omega arith
-
-sub-left : tie.Need-sub-left Inv-loop μ-loop
-sub-left c = omega arith
-
-loop-less : tie.Need-loop-less Inv-loop μ-loop
-loop-less c = omega arith
-
 loop-again : tie.Need-loop-again Inv-loop μ-loop
 loop-again c =
     let l = c .before .before .loop in
@@ -53,4 +44,4 @@ returns-2 c =
 pub ascend-spec : {M : Type 1} → statement M
 ascend-spec =
     tie.close
-    (tie.spec Inv-loop μ-loop loop-holds returns add-least sub-left loop-less loop-again returns-2)
+    (tie.spec Inv-loop μ-loop loop-holds returns (λ c. omega arith) (λ c. omega arith) (λ c. omega arith) loop-again returns-2)

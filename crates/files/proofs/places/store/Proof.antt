@@ -22,25 +22,10 @@ Inv-loop bytes₀ start places rest₀ at₀ end bytes rest at =
 abbrev μ-loop : tie.MeasureT-loop
 μ-loop bytes₀ start places rest₀ at₀ end bytes rest at = end - at
 
-add-end : tie.Need-add-end Inv-loop μ-loop
-add-end c = omega arith
-
 loop-holds : tie.Need-loop-holds Inv-loop μ-loop
 loop-holds c =
     let all : c .args .start + 8 - c .args .start ≡ 8 = omega arith in
     (omega arith, refl, rw all)
-
-cast-bytes : tie.Need-cast-bytes Inv-loop μ-loop
-cast-bytes c = omega arith
-
-slice-write-bytes : tie.Need-slice-write-bytes Inv-loop μ-loop
-slice-write-bytes c = omega arith
-
-add-at : tie.Need-add-at Inv-loop μ-loop
-add-at c = omega arith
-
-loop-less : tie.Need-loop-less Inv-loop μ-loop
-loop-less c = omega arith
 
 loop-again : tie.Need-loop-again Inv-loop μ-loop
 loop-again c =
@@ -69,12 +54,12 @@ store-spec =
     (tie.spec
     Inv-loop
     μ-loop
-    add-end
+    (λ c. omega arith)
     loop-holds
-    cast-bytes
-    slice-write-bytes
-    add-at
-    loop-less
+    (λ c. omega arith)
+    (λ c. omega arith)
+    (λ c. omega arith)
+    (λ c. omega arith)
     loop-again
     same-length
     returns)

@@ -16,12 +16,6 @@ returns : tie.Need-returns
 unfolding readMeans
 returns c = let a = c .before .before .args in sym (read-past (now (a .file)) (a .at) (omega arith))
 
-shared-slice-read-kind : tie.Need-shared-slice-read-kind
-shared-slice-read-kind c = search needs
-
-known-kind-requires : tie.Need-known-kind-requires
-known-kind-requires c κs = search needs
-
 returns-2 : tie.Need-returns-2
 unfolding readMeans
 returns-2 c =
@@ -32,12 +26,6 @@ returns-2 c =
 kind-known : (c : tie.Else2) → let a = c .before .before .before .before .before .args in knownKind (getD (now (a .file)) (a .at) 0) ≡ true
 kind-known c = sym (c .before .known-kind .ensures) ∙ not-false _ (c .if2 .left)
 
-add-next : tie.Need-add-next
-add-next c = search needs
-
-body-bytes-requires : tie.Need-body-bytes-requires
-body-bytes-requires c κs = search needs
-
 add-next-2 : tie.Need-add-next-2
 add-next-2 c = omega (arith, c .body-bytes .ensures, bodyBytes-le (getD (now (c .before .before .before .before .before .before .args .file)) (c .before .before .before .before .before .before .args .at) 0))
 
@@ -46,12 +34,6 @@ unfolding readMeans nextPlace
 returns-3 c =
     let a = c .before .before .before .before .before .before .before .args in
     sym (read-short (now (a .file)) (a .at) (omega arith) (kind-known (c .before .before)) (omega (arith, c .before .body-bytes .ensures)))
-
-add-read-body : tie.Need-add-read-body
-add-read-body c = search needs
-
-read-body-requires : tie.Need-read-body-requires
-read-body-requires c κs = search needs
 
 returns-4 : tie.Need-returns-4
 unfolding readMeans nextPlace
@@ -65,13 +47,13 @@ read-record-spec =
     tie.close
     (tie.spec
     returns
-    shared-slice-read-kind
-    known-kind-requires
+    (λ c. search needs)
+    (λ c κs. search needs)
     returns-2
-    add-next
-    body-bytes-requires
+    (λ c. search needs)
+    (λ c κs. search needs)
     add-next-2
     returns-3
-    add-read-body
-    read-body-requires
+    (λ c. search needs)
+    (λ c κs. search needs)
     returns-4)

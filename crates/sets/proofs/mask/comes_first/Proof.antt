@@ -6,18 +6,12 @@ use Rattle.sets.proofs.Laws.Masks.Counts.{lowestFirst-low, lowestFirst-
 use Rattle.sets.proofs.mask.comes_first.Statement.{statement}
 use Rattle.sets.proofs.mask.comes_first.Tie as tie
 
-word-comes-first-requires : tie.Need-word-comes-first-requires
-word-comes-first-requires c κs = tt
-
 returns : tie.Need-returns
 unfolding maskMeans
 returns c =
     let a = c .before .before .before .before .args in
     c .word-comes-first .ensures
     ∙ lowestFirst-high (a .s .low) (a .s .high) (a .t .low) (a .t .high) (omega arith) (omega arith) (c .before .if1 .taken) (omega arith) (omega arith)
-
-word-comes-first-requires-2 : tie.Need-word-comes-first-requires-2
-word-comes-first-requires-2 c κs = tt
 
 returns-2 : tie.Need-returns-2
 unfolding maskMeans
@@ -27,4 +21,4 @@ returns-2 c =
     ∙ lowestFirst-low (a .s .low) (a .s .high) (a .t .low) (a .t .high) (omega arith) (omega arith) (c .before .if1 .left)
 
 pub comes-first-spec : {M : Type 1} → statement M
-comes-first-spec = tie.close (tie.spec word-comes-first-requires returns word-comes-first-requires-2 returns-2)
+comes-first-spec = tie.close (tie.spec (λ c κs. tt) returns (λ c κs. tt) returns-2)

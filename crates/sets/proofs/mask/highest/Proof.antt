@@ -5,17 +5,8 @@ use Rattle.sets.proofs.Laws.Masks.Counts.{highest-high-word, highest-lo
 use Rattle.sets.proofs.mask.highest.Statement.{statement}
 use Rattle.sets.proofs.mask.highest.Tie as tie
 
-cast-result : tie.Need-cast-result
-cast-result c = omega (arith, leading-le 64 (c .before .before .before .args .s .high))
-
-sub-result : tie.Need-sub-result
-sub-result c = omega (arith, leading-le 64 (c .before .before .before .args .s .high))
-
 returns : tie.Need-returns
 returns c = highest-high-word (c .before .before .before .args .s) (omega arith) (omega arith) (omega arith)
-
-cast-result-2 : tie.Need-cast-result-2
-cast-result-2 c = omega (arith, leading-le 64 (c .before .before .before .before .before .args .s .low))
 
 sub-result-2 : tie.Need-sub-result-2
 sub-result-2 c =
@@ -30,4 +21,4 @@ returns-3 : tie.Need-returns-3
 returns-3 c = highest-no-word (c .before .before .before .before .args .s) (omega arith) (omega arith)
 
 pub highest-spec : {M : Type 1} → statement M
-highest-spec = tie.close (tie.spec cast-result sub-result returns cast-result-2 sub-result-2 returns-2 returns-3)
+highest-spec = tie.close (tie.spec (λ c. omega (arith, leading-le 64 (c .before .before .before .args .s .high))) (λ c. omega (arith, leading-le 64 (c .before .before .before .args .s .high))) returns (λ c. omega (arith, leading-le 64 (c .before .before .before .before .before .args .s .low))) sub-result-2 returns-2 returns-3)

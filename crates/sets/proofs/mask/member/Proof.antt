@@ -8,20 +8,11 @@ use Rattle.sets.proofs.Laws.Masks.{digit-member, member-low-word, membe
 use Rattle.sets.proofs.mask.member.Statement.{statement}
 use Rattle.sets.proofs.mask.member.Tie as tie
 
-shr-result : tie.Need-shr-result
-shr-result c = search needs
-
 returns : tie.Need-returns
 unfolding maskMeans
 returns c =
     let a = c .before .before .args in
     digit-member (a .a) (a .s .low) ∙ member-low-word (a .s .low) (a .s .high) (omega arith) (a .a) (omega arith)
-
-cast-result : tie.Need-cast-result
-cast-result c = search needs
-
-shr-result-2 : tie.Need-shr-result-2
-shr-result-2 c = search needs
 
 returns-2 : tie.Need-returns-2
 unfolding maskMeans
@@ -33,4 +24,4 @@ returns-3 : tie.Need-returns-3
 returns-3 c = let a = c .before .before .args in sym (member-past (a .s) (omega arith) (omega arith) (a .a) (omega arith))
 
 pub member-spec : {M : Type 1} → statement M
-member-spec = tie.close (tie.spec shr-result returns cast-result shr-result-2 returns-2 returns-3)
+member-spec = tie.close (tie.spec (λ c. search needs) returns (λ c. search needs) (λ c. search needs) returns-2 returns-3)

@@ -7,23 +7,14 @@ use Rattle.sets.proofs.Laws.Masks.{with-low-word, with-high-word, withA
 use Rattle.sets.proofs.mask.with.Statement.{statement}
 use Rattle.sets.proofs.mask.with.Tie as tie
 
-shl-t5 : tie.Need-shl-t5
-shl-t5 c = search needs
-
 returns : tie.Need-returns
 returns c = let a = c .before .before .args in with-low-word (a .s) (omega arith) (a .a) (omega arith)
 
 returns-2 : tie.Need-returns-2
 returns-2 c = let a = c .before .before .args in sym (withAtom-past (a .a) (maskMeans (a .s)) (omega arith))
 
-cast-t8 : tie.Need-cast-t8
-cast-t8 c = search needs
-
-shl-t9 : tie.Need-shl-t9
-shl-t9 c = search needs
-
 returns-3 : tie.Need-returns-3
 returns-3 c = let a = c .before .before .before .args in with-high-word (a .s) (omega arith) (a .a) (omega arith) (omega arith)
 
 pub with-spec : {M : Type 1} → statement M
-with-spec = tie.close (tie.spec shl-t5 returns returns-2 cast-t8 shl-t9 returns-3)
+with-spec = tie.close (tie.spec (λ c. search needs) returns returns-2 (λ c. search needs) (λ c. search needs) returns-3)

@@ -8,17 +8,8 @@ use Rattle.sets.specs.Masks.{maskMeans}
 use Rattle.sets.proofs.mask.without.Statement.{statement}
 use Rattle.sets.proofs.mask.without.Tie as tie
 
-shl-t5 : tie.Need-shl-t5
-shl-t5 c = search needs
-
 returns : tie.Need-returns
 returns c = let a = c .before .before .args in without-low-word (a .s) (omega arith) (a .a) (omega arith)
-
-cast-t9 : tie.Need-cast-t9
-cast-t9 c = search needs
-
-shl-t10 : tie.Need-shl-t10
-shl-t10 c = search needs
 
 returns-2 : tie.Need-returns-2
 returns-2 c =
@@ -31,4 +22,4 @@ returns-3 c =
     sym (without-not-member (a .a) (maskMeans (a .s)) (member-past (a .s) (omega arith) (omega arith) (a .a) (omega arith)))
 
 pub without-spec : {M : Type 1} → statement M
-without-spec = tie.close (tie.spec shl-t5 returns cast-t9 shl-t10 returns-2 returns-3)
+without-spec = tie.close (tie.spec (λ c. search needs) returns (λ c. search needs) (λ c. search needs) returns-2 returns-3)

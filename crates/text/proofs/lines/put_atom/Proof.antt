@@ -17,21 +17,12 @@ use Rattle.text.proofs.lines.put_atom.Tie as tie
 text-of : (set a : ℕ) (t : Bool) → member a set ≡ t → atomText set a ≡ cond t (bytesOf " " ++ decimal a) []
 text-of set a t e = ap (λ (u : Bool). cond u (bytesOf " " ++ decimal a) []) e
 
-member-requires : tie.Need-member-requires
-member-requires c κs = search needs
-
-slice-aggregate-put-labelled : tie.Need-slice-aggregate-put-labelled
-slice-aggregate-put-labelled c = search needs
-
 put-labelled-requires : tie.Need-put-labelled-requires
 unfolding bytesOf maskMeans
 put-labelled-requires c κs =
     let s = c .before .before .before .before .before in
     let told = sym (c .before .before .before .member .ensures) ∙ c .before .before .if1 .taken in
     room-same (text-of (words (s .args .low) (s .args .high)) (s .args .a) true told) (s .pre)
-
-same-length : tie.Need-same-length
-same-length c = search needs
 
 returns : tie.Need-returns
 unfolding bytesOf maskMeans
@@ -51,9 +42,9 @@ pub put-atom-spec : {M : Type 1} → statement M
 put-atom-spec =
     tie.close
     (tie.spec
-    member-requires
-    slice-aggregate-put-labelled
+    (λ c κs. search needs)
+    (λ c. search needs)
     put-labelled-requires
-    same-length
+    (λ c. search needs)
     returns
     returns-2)

@@ -36,12 +36,6 @@ put-atom-requires c κs =
     let l = c .before .before .loop in
     texts-next (of s) (l .a) mostAtoms (omega arith) (room s) (l .inv .0)
 
-add-a : tie.Need-add-a Inv-loop μ-loop
-add-a c = omega arith
-
-loop-less : tie.Need-loop-less Inv-loop μ-loop
-loop-less c = omega arith
-
 loop-again : tie.Need-loop-again Inv-loop μ-loop
 loop-again c =
     let s = c .before .before .before .before .before .before .before in
@@ -71,8 +65,8 @@ put-atoms-spec =
     μ-loop
     loop-holds
     put-atom-requires
-    add-a
-    loop-less
+    (λ c. omega arith)
+    (λ c. omega arith)
     loop-again
     same-length
     returns)

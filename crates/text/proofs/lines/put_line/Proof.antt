@@ -27,18 +27,12 @@ put-atoms-requires c κs =
     let s = c .before .before .before .before .before .before in
     room-second (weight s) (atoms s) (c .before .before .before .put-decimal .ensures) (room-first (weight s ++ atoms s) (bytesOf "\n") (s .pre))
 
-slice-aggregate-put-bytes : tie.Need-slice-aggregate-put-bytes
-slice-aggregate-put-bytes c = search needs
-
 put-bytes-requires : tie.Need-put-bytes-requires
 unfolding lineText bytesOf
 put-bytes-requires c κs =
     let s = c .before .before .before .before .before .before .before .before .before .before .before in
     let both = put-both (weight s) (atoms s) (c .before .before .before .before .before .before .before .before .put-decimal .ensures) (room-first (weight s ++ atoms s) (bytesOf "\n") (s .pre)) (c .before .before .before .before .put-atoms .ensures) in
     room-second (weight s ++ atoms s) (bytesOf "\n") both (s .pre)
-
-same-length : tie.Need-same-length
-same-length c = search needs
 
 returns : tie.Need-returns
 unfolding lineText bytesOf
@@ -50,4 +44,4 @@ returns c =
 pub put-line-spec : {M : Type 1} → statement M
 put-line-spec =
     tie.close
-    (tie.spec put-decimal-requires put-atoms-requires slice-aggregate-put-bytes put-bytes-requires same-length returns)
+    (tie.spec put-decimal-requires put-atoms-requires (λ c. search needs) put-bytes-requires (λ c. search needs) returns)

@@ -12,17 +12,11 @@ put-labelled-requires c κs =
     let s = c .before .before .before in
     room-first (now (s .args .label) ++ decimal (s .args .n)) (bytesOf "\n") (s .pre)
 
-slice-aggregate-put-bytes : tie.Need-slice-aggregate-put-bytes
-slice-aggregate-put-bytes c = search needs
-
 put-bytes-requires : tie.Need-put-bytes-requires
 unfolding bytesOf
 put-bytes-requires c κs =
     let s = c .before .before .before .before .before .before .before .before in
     room-second (now (s .args .label) ++ decimal (s .args .n)) (bytesOf "\n") (c .before .before .before .before .put-labelled .ensures) (s .pre)
-
-same-length : tie.Need-same-length
-same-length c = search needs
 
 returns : tie.Need-returns
 unfolding bytesOf
@@ -32,4 +26,4 @@ returns c =
 
 pub put-ended-spec : {M : Type 1} → statement M
 put-ended-spec =
-    tie.close (tie.spec put-labelled-requires slice-aggregate-put-bytes put-bytes-requires same-length returns)
+    tie.close (tie.spec put-labelled-requires (λ c. search needs) put-bytes-requires (λ c. search needs) returns)

@@ -16,9 +16,6 @@ put-decimal-requires c κs =
     let s = c .before .before .before .before .before .before .before in
     room-second (now (s .args .label)) (decimal (s .args .n)) (c .before .before .before .put-bytes .ensures) (s .pre)
 
-same-length : tie.Need-same-length
-same-length c = search needs
-
 returns : tie.Need-returns
 returns c =
     let s = c .before .before .before .before .before .before .before .before .before .before in
@@ -26,4 +23,4 @@ returns c =
 
 pub put-labelled-spec : {M : Type 1} → statement M
 put-labelled-spec =
-    tie.close (tie.spec put-bytes-requires put-decimal-requires same-length returns)
+    tie.close (tie.spec put-bytes-requires put-decimal-requires (λ c. search needs) returns)
