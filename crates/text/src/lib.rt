@@ -20,6 +20,7 @@ use running::run;
 use search::Ending;
 use search::Opened;
 use search::Search;
+ghost use mathlib.Core.Path.{_≡_};
 ghost use mathlib.Core.List.{_++_};
 ghost use mathlib.Core.Option.{some};
 ghost use Prim.Native.Nat.{_≤_};
