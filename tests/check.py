@@ -1,7 +1,7 @@
 #!/usr/bin/env python3
 """Runs all checks: of the enumerator against document 01 and against itself,
-of the files stored for the programs loading and searching, of the examples,
-their pages and the command, and of the program listing against the enumerator.
+of the files stored for the program replay, of the examples, their pages and
+the command, and of the program listing and the C names against the enumerator.
 
     python3 check.py                all sections
     python3 check.py --only WORD    those whose titles have this in them

@@ -1,12 +1,11 @@
 /* Calls every function of vilthomm.h on the items of some containers and prints what is answered, a line or more an item.
 
-     firmware loading DIRECTORY      boards.bin, states.bin, tables.bin: load, total, yes-or-no
-     firmware searching DIRECTORY    runs.bin, handed.bin, shares.bin, changed.bin: load, open, run, share, yes-or-no
-     firmware listings FILE          listing
-     firmware sizes FILE             the sizes of vilthomm.h; load and listing by them
+     firmware replay DIRECTORY    all containers of the directory but records.bin: load, total, yes-or-no, open, run, share
+     firmware listings FILE       listing
+     firmware sizes FILE          the sizes of vilthomm.h; load and listing by them
 
-   The containers and the lines are those of the programs of these names (crates/loading/src/main.rt, crates/searching/src/main.rt), those of
-   listings and sizes in tests/checks/firmware.py, which compares the lines with the enumerator's. After each call the bytes lent are compared with a copy, and
+   The containers and the lines of replay are those of the program of this name (crates/replay/src/main.rt);
+   those of listings and sizes are in tests/checks/firmware.py, which compares the lines with the enumerator's. After each call the bytes lent are compared with a copy, and
    what must be 0 beside a refusal is tested. */
 #include "firmware/container.h"
 #include <stdio.h>
@@ -122,11 +121,10 @@ static void lend_nothing(void)
 int main(int count, char **words)
 {
     lend_nothing();
-    if (count == 3 && !strcmp(words[1], "loading")) {
+    if (count == 3 && !strcmp(words[1], "replay")) {
         items(words[2], "/boards.bin", board_item);
         items(words[2], "/states.bin", state_item);
         items(words[2], "/tables.bin", table_item);
-    } else if (count == 3 && !strcmp(words[1], "searching")) {
         items(words[2], "/runs.bin", search_item);
         items(words[2], "/handed.bin", search_item);
         items(words[2], "/shares.bin", search_item);
@@ -137,7 +135,7 @@ int main(int count, char **words)
         print_sizes();
         items(words[2], "", sizes_item);
     } else {
-        fprintf(stderr, "use: firmware loading|searching DIRECTORY, firmware listings|sizes FILE\n");
+        fprintf(stderr, "use: firmware replay DIRECTORY, firmware listings|sizes FILE\n");
         return 2;
     }
     return 0;

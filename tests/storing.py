@@ -1,10 +1,10 @@
 """The files stored for a program that runs cases: its containers, in a folder
 `data`, and what it is to print, in `stdout`.
 
-A container is a module of `containers`, with its `items()` and MOST, which is
-more than its bytes.  stdout has the lines of all items, container by
-container, each with a line feed at its end.  Seeds are fixed, so the same
-bytes come out each time.
+A container is a module of `containers`, with its `items()`, its TAIL, MOST,
+which is more than its bytes, and `lines`, those of an item.  stdout has the
+lines of all items, container by container, each with a line feed at its end.
+Seeds are fixed, so the same bytes come out each time.
 """
 
 import os
@@ -12,23 +12,28 @@ import sys
 from functools import lru_cache
 
 import enumerator as en
+from containers.common import put_together, taken_apart
 
 
 class Program:
-    """A program.  `containers` has them by name, in the order of their lines;
-    `written(container)` is the bytes of one, and `answered(bytes, container)`
-    the lines of each of its items, as read from these bytes."""
+    """A program.  `containers` has them by name, in the order of their
+    lines."""
 
-    def __init__(self, name, containers, written, answered):
+    def __init__(self, name, containers):
         self.name = name
         self.containers = containers
-        self.written = lru_cache(maxsize=None)(written)
-        self.answered = answered
+
+    @lru_cache(maxsize=None)
+    def written(self, container):
+        """The bytes of a container."""
+        return put_together(container.items(), container.TAIL)
 
     @lru_cache(maxsize=None)
     def lines_of(self):
-        """By the containers' names, the lines of each item."""
-        return {name: self.answered(self.written(container), container)
+        """By the containers' names, the lines of each item, as read from the
+        container's bytes."""
+        return {name: [container.lines(*item) for item in taken_apart(
+                           self.written(container), container.TAIL)]
                 for name, container in self.containers.items()}
 
     @lru_cache(maxsize=None)

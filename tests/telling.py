@@ -24,7 +24,7 @@ from functools import lru_cache, partial
 sys.dont_write_bytecode = True
 
 from containers import acts, fields                             # noqa: E402
-from searching import PROGRAM                                   # noqa: E402
+from replay import OF_ACTS as PROGRAM                           # noqa: E402
 from wrong_readings import RIGHT_RUN, readings                  # noqa: E402
 
 RIGHT = "none: the right reading"

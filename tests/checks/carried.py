@@ -1,17 +1,17 @@
-"""The files for the searching program, as stored in crates/searching."""
+"""The containers of acts for the program replay, and what is stored in
+crates/replay."""
 
 import os
 from functools import lru_cache
 
 import enumerator as en
 from checks.demand3 import Truth, hold_run
+from checks.stored import hold_container
 from checks.tally import TESTS, section
-from containers.acts import (Open, Run, Share, TrueWeight, act_lines,
-                             carried_out, taken_apart)
+from containers.acts import (Open, Run, Share, TrueWeight, carried_out,
+                             lines_of)
 from containers.fields import faults, fields_of, room_fault, search_of
-from searching import PROGRAM
-
-ROOM = 262_144              # what the program has for a container
+from replay import ACTS, FILES, OF_FILES, PROGRAM
 
 # Each clause of "Well formed means", as `fields.faults` names it.
 CLAUSES = (
@@ -145,32 +145,35 @@ def hold_answer(tally, what, one, met):
                    one.after)
 
 
-@section("files for the searching program, and stored in crates/searching")
-def searching_files(tally):
-    folder = os.path.join(os.path.dirname(TESTS), "crates", "searching")
-    met, printed = Met(), []
+def hold_items(tally, name, met):
+    """A container of acts; gives its lines."""
+    written, items = hold_container(tally, PROGRAM, name)
+    printed = []
+    for item in items:
+        done = list(carried_out(*item[1:]))
+        printed += lines_of(done)
+        what = "%s, %s" % (name, item.name)
+        hold_item(tally, what, done, met)
+        hold_true_weights(tally, what, done, met)
+        for answer in filter(None, map(answer_of, done[1:])):
+            met.answer(name, answer)
+    print("  %s: %d items, %d bytes: %s" % (
+        name, len(items), len(written), ", ".join(
+            "%s %d" % answer for answer in sorted(met.answers[name].items()))))
+    return printed
+
+
+@section("acts for the program replay, and what is stored in crates/replay")
+def replay_files(tally):
+    folder = os.path.join(os.path.dirname(TESTS), "crates", "replay")
+    met = Met()
+    printed = [line for name in FILES for lines in OF_FILES.lines_of()[name]
+               for line in lines]
+    for name in ACTS:
+        printed += hold_items(tally, name, met)
     for name, container in PROGRAM.containers.items():
-        written, items = PROGRAM.written(container), container.items()
-        tally.true("%s is below %d bytes" % (name, container.MOST),
-                   len(written) < container.MOST <= ROOM)
-        tally.same(name + ": no name twice",
-                   len({item.name for item in items}), len(items))
-        read = list(taken_apart(written))
-        tally.same(name + " taken apart", read, [item[1:] for item in items])
-        for item, (file, acts) in zip(items, read):
-            done = list(carried_out(file, acts))
-            printed += [line for one in done for line in act_lines(one)]
-            what = "%s, %s" % (name, item.name)
-            hold_item(tally, what, done, met)
-            hold_true_weights(tally, what, done, met)
-            for one in done[1:]:
-                if answer_of(one):
-                    met.answer(name, answer_of(one))
-        hold_stored(tally, os.path.join(folder, "data", name), written)
-        print("  %s: %d items, %d bytes: %s" % (
-            name, len(items), len(written), ", ".join(
-                "%s %d" % answer
-                for answer in sorted(met.answers[name].items()))))
+        hold_stored(tally, os.path.join(folder, "data", name),
+                    PROGRAM.written(container))
     stdout = "".join(line + "\n" for line in printed).encode("ascii")
     hold_stored(tally, os.path.join(folder, "stdout"), stdout)
     print("  stdout: %d lines, %d bytes; %d runs held to the brute force, %d "
@@ -181,8 +184,8 @@ def searching_files(tally):
 
 def hold_stored(tally, path, wanted):
     """A stored file is what would be written."""
-    tally.true("%s is stale; to write anew: python3 tests/searching.py "
-               "crates/searching" % path, en.file_bytes(path) == wanted)
+    tally.true("%s is stale; to write anew: python3 tests/replay.py "
+               "crates/replay" % path, en.file_bytes(path) == wanted)
 
 
 def hold_met(tally, met):

@@ -75,9 +75,9 @@ def command_sources(tally):
     tally.same("a library", building.crates_of("holding"),
                {"holding", "files", "board", "sets"})
     tally.same("a program, with crates of the toolchain",
-               building.crates_of("loading"), {
-                   "loading", "files", "holding", "board", "sets", "io",
-                   "libc", "os"})
+               building.crates_of("listing"), {
+                   "listing", "text", "bounds", "running", "asking", "formed",
+                   "search", "files", "board", "sets", "io", "libc", "os"})
     sources = list(building.sources())
     for path, wanted in (
             (("sets", "src", "lib.rt"), True),

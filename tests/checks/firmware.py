@@ -20,7 +20,7 @@ from checks.cases import LISTED_001
 from checks.tally import TESTS, section, typed
 from containers import boards_bin, runs_bin
 from containers.acts import Open, Run
-from loading import PROGRAM as LOADING
+from replay import FILES
 
 TOP = os.path.dirname(TESTS)
 BUILT = os.path.join("target", "firmware")
@@ -170,16 +170,16 @@ def hold_lines(tally, what, wanted, *words):
         tally.same("%s, line %d" % (what, number), line, right)
 
 
-def without_records(stdout):
-    """The lines of the program loading but those of records.bin: reading one
-    record has no C name."""
-    lines, kept = stdout.splitlines(keepends=True), []
-    for name, container in LOADING.containers.items():
-        count = len(container.items())
-        if name != "records.bin":
-            kept += lines[:count]
-        lines = lines[count:]
-    return b"".join(kept)
+def replayed():
+    """The lines of the program replay but those of records.bin: reading one
+    record has no C name.  The first containers have a line for each item."""
+    lines = en.file_bytes(os.path.join(
+        TOP, "crates", "replay", "stdout")).splitlines(keepends=True)
+    boards_and_states, records = (
+        sum(len(FILES[name].items()) for name in names)
+        for names in (("boards.bin", "states.bin"), ("records.bin",)))
+    del lines[boards_and_states:boards_and_states + records]
+    return b"".join(lines)
 
 
 def hold_listings(tally):
@@ -217,20 +217,14 @@ def hold_sizes(tally):
     hold_lines(tally, "sizes", b"".join(wanted), "sizes", container)
 
 
-def stored_stdout(program):
-    return en.file_bytes(os.path.join(TOP, "crates", program, "stdout"))
-
-
 def hold_programs(tally, command):
     """tests/firmware.c and examples/firmware.c, linked to the archive."""
     built = [*command, "-std=c99", *FLAGS]
     os.makedirs(os.path.join(TOP, BUILT), exist_ok=True)
     if succeeds(tally, "tests/firmware.c", *built, *SOURCES, ARCHIVE, "-o",
                 os.path.join(BUILT, "test")):
-        hold_lines(tally, "loading", without_records(stored_stdout("loading")),
-                   "loading", "crates/loading/data")
-        hold_lines(tally, "searching", stored_stdout("searching"),
-                   "searching", "crates/searching/data")
+        hold_lines(tally, "replay", replayed(), "replay",
+                   "crates/replay/data")
         hold_listings(tally)
         hold_sizes(tally)
     example = os.path.join(BUILT, "example")

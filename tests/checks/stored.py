@@ -1,4 +1,5 @@
-"""The files for the loading program, and those stored in crates/loading."""
+"""The containers of board files for the program replay, and how files are
+written and compared."""
 
 import contextlib
 import io
@@ -15,11 +16,27 @@ from containers.arrays import Arrays, loaded_arrays, with_value
 from containers.common import taken_apart
 from containers.states_bin import NO, YES
 from containers.tables_bin import NO_TABLE, TABLE
-from loading import PROGRAM
+from replay import OF_FILES as PROGRAM
+
+ROOM = 262_144              # what the program has for a container
 
 
-@section("files for the loading program")
-def loading_files(tally):
+def hold_container(tally, program, name):
+    """A container, whose bytes are taken apart into its items; gives both."""
+    container = program.containers[name]
+    written, items = program.written(container), container.items()
+    tally.true("%s is below %d bytes" % (name, container.MOST),
+               len(written) < container.MOST <= ROOM)
+    tally.same(name + " taken apart",
+               list(taken_apart(written, container.TAIL)),
+               [item[1:] for item in items])
+    tally.same(name + ": no name twice",
+               len({item.name for item in items}), len(items))
+    return written, items
+
+
+@section("board files for the program replay")
+def board_files(tally):
     stored = PROGRAM.stored_files()
     lines = stored["stdout"].decode("ascii").split("\n")
     counts = [len(container.items())
@@ -27,16 +44,8 @@ def loading_files(tally):
     tally.same("a line for each item, and a line feed at the end",
                (len(lines), lines[-1]), (sum(counts) + 1, ""))
     began = 0
-    for name, container in PROGRAM.containers.items():
-        written = stored[os.path.join("data", name)]
-        items = container.items()
-        tally.true("%s is below %d bytes" % (name, container.MOST),
-                   len(written) < container.MOST)
-        tally.same(name + " taken apart",
-                   list(taken_apart(written, container.TAIL)),
-                   [item[1:] for item in items])
-        tally.same(name + ": no name twice",
-                   len({item.name for item in items}), len(items))
+    for name in PROGRAM.containers:
+        written, items = hold_container(tally, PROGRAM, name)
         answered = list(zip(items, lines[began:]))
         met = {}
         for _, line in answered:
@@ -147,21 +156,24 @@ def counted(met):
 
 
 def told(*arguments):
-    """The exit status of loading.py and what it prints."""
+    """The exit status of replay.py and what it prints, with the containers of
+    board files alone."""
     said = io.StringIO()
     with contextlib.redirect_stdout(said):
         status = PROGRAM.main(list(arguments))
     return status, said.getvalue()
 
 
-@section("files for the loading program, written and compared")
-def loading_command_line(tally):
-    script = os.path.join(TESTS, "loading.py")
+@section("files for the program replay, written and compared")
+def replay_command_line(tally):
+    used = subprocess.run([sys.executable, "-B", os.path.join(
+        TESTS, "replay.py"), "--other"], capture_output=True, timeout=60)
+    tally.same("a use that is none", (used.returncode, used.stdout,
+                                      used.stderr[:5]), (2, b"", b"use: "))
     with tempfile.TemporaryDirectory() as folder:
         status, said = told("--stale", folder)
         tally.same("nothing there", (status, said.count("missing")), (1, 5))
-        subprocess.run([sys.executable, "-B", script, folder], timeout=60,
-                       check=True)
+        tally.same("written", told(folder), (0, ""))
         tally.same("written and compared", told("--stale", folder), (0, ""))
         for name, wanted in PROGRAM.stored_files().items():
             path = os.path.join(folder, name)
@@ -179,12 +191,3 @@ def loading_command_line(tally):
             with open(path, "wb") as handle:
                 handle.write(wanted)
             tally.same(name + " put right", told("--stale", folder), (0, ""))
-
-
-@section("stored files of crates/loading")
-def loading_stored(tally):
-    folder = os.path.join(os.path.dirname(TESTS), "crates", "loading")
-    for sentence in PROGRAM.stale_files(folder):
-        tally.fail(sentence + "; to write anew: "
-                   "python3 tests/loading.py crates/loading")
-    tally.checks += len(PROGRAM.stored_files())

@@ -1,1 +1,1 @@
-"""The four containers of board files that the loading program reads."""
+"""The containers that the program replay reads."""

@@ -1,7 +1,6 @@
-"""The acts of an item for the searching program, and what each prints.
+"""Items that are a board file and acts on its table, and what each act prints.
 
-An item is a board file and acts on its table, each of the two after its length
-in two bytes.  The file is loaded, and the search is the one whose every field
+The acts stand after their length in two bytes.  The file is loaded, and the search is the one whose every field
 is zero; then the acts follow, each a byte with its kind and what it needs,
 numbers low byte first:
 
@@ -35,7 +34,7 @@ from typing import NamedTuple
 import enumerator as en
 from containers.arrays import (Arrays, arrays_of, file_of_arrays,
                                some_file_loads_to, with_value)
-from containers.common import MOST_IN_ITEM, refused
+from containers.common import PART, Form, refused
 from containers.fields import (ZERO, faults, fields_of, search_of, sums,
                                with_word)
 
@@ -99,33 +98,6 @@ def act_bytes(act):
         for number, size in zip(act, NUMBERS[type(act)]))
 
 
-def put_together(items):
-    """The bytes of a container."""
-    parts = []
-    for item in items:
-        script = b"".join(act_bytes(act) for act in item.acts)
-        for part in (item.file, script):
-            if len(part) > MOST_IN_ITEM:
-                raise ValueError("a part of %d bytes" % len(part))
-            parts += [len(part).to_bytes(2, "little"), part]
-    return b"".join(parts)
-
-
-def taken_apart(container):
-    """The items of a container, without names, read as the program reads
-    them: file and acts."""
-    place = 0
-    while place < len(container):
-        parts = []
-        for _ in range(2):
-            length = int.from_bytes(container[place:place + 2], "little")
-            place += 2 + length
-            if place > len(container):
-                raise ValueError("the container stops within an item")
-            parts.append(container[place - length:place])
-        yield parts[0], tuple(acts_in(parts[1]))
-
-
 def acts_in(script):
     """The acts that the bytes are."""
     place = 0
@@ -145,6 +117,10 @@ def acts_in(script):
         yield act(*numbers)
     if place != len(script):
         raise ValueError("the acts stop within an act")
+
+
+TAIL = (Form(lambda acts: PART.put(b"".join(map(act_bytes, acts))),
+             lambda take: tuple(acts_in(PART.taken(take)))),)
 
 
 # What acts do.
@@ -280,7 +256,11 @@ def act_lines(done):
     return []
 
 
+def lines_of(done):
+    """The lines of acts carried out."""
+    return [line for one in done for line in act_lines(one)]
+
+
 def lines(file, acts):
     """The lines of an item."""
-    return [line for done in carried_out(file, acts)
-            for line in act_lines(done)]
+    return lines_of(carried_out(file, acts))

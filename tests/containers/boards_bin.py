@@ -27,6 +27,10 @@ def line(file):
     return en.load_line(file)
 
 
+def lines(*item):
+    return [line(*item)]
+
+
 def fixed_files():
     """The files that load, and those that are refused."""
     for name, file in boards.accepted_files():

@@ -10,6 +10,7 @@ from functools import lru_cache
 
 import boards
 import enumerator as en
+from containers.acts import TAIL, lines  # noqa: F401
 from containers.acts import (Item, Open, SetSearch, SetTable, Share,
                              carried_out, runs)
 from containers.arrays import (ATOM, ATOMS, BODY, DECLARATION, HEAD,

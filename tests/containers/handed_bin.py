@@ -10,6 +10,7 @@ from functools import lru_cache
 
 import boards
 import enumerator as en
+from containers.acts import TAIL, lines  # noqa: F401
 from containers.acts import SetSearch
 from containers.bases import base_of, bases, changed, differing, handed
 from containers.clauses import broken_clauses

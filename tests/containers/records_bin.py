@@ -39,6 +39,10 @@ def line(file, place):
     return " ".join(map(str, (word, *fields, "next", answer.place)))
 
 
+def lines(*item):
+    return [line(*item)]
+
+
 def read_at(title, file, places):
     """Items of one file."""
     for place in places:

@@ -10,6 +10,7 @@ from math import prod
 
 import boards
 import enumerator as en
+from containers.acts import TAIL, lines  # noqa: F401
 from containers.acts import Item, Open, TrueWeight, runs
 from containers.states_bin import (APART, both_below, eight_below,
                                    either_below, facts)

@@ -10,6 +10,7 @@ from functools import lru_cache
 
 import boards
 import enumerator as en
+from containers.acts import TAIL, lines  # noqa: F401
 from containers.acts import Item, Open, SetSearch, Share, runs
 from containers.bases import base_of, bases, differing, lines_of
 from containers.fields import (ENTRIES, LINE_WEIGHT, LINES, PENDING_LOW,

@@ -12,10 +12,10 @@ from typing import NamedTuple
 
 import boards
 import enumerator as en
-from containers.common import STATE, refused
+from containers.common import ATOMS, refused
 from random_boards import random_board
 
-TAIL = (STATE, 1)
+TAIL = (ATOMS, 1)
 MOST = 60_000               # it has fewer bytes than this
 
 YES, NO = "yes", "no"
@@ -38,6 +38,10 @@ def line(file, state, atom):
     if answer.refusal:
         return refused(answer.refusal)
     return YES if answer.holds else NO
+
+
+def lines(*item):
+    return [line(*item)]
 
 
 def asked(states, *atoms):

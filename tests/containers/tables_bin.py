@@ -41,6 +41,10 @@ def line(file, field, index, value):
     return TABLE if some_file_loads_to(arrays) else NO_TABLE
 
 
+def lines(*item):
+    return [line(*item)]
+
+
 def changes_of(title, board, *cases):
     """Items of one board.  A case has the field, the index and the values."""
     file = boards.file_of(board)

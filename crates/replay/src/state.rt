@@ -1,0 +1,108 @@
+// What is printed of a search: its counts and its sums, its lines in their order, then its entries, the first one first.
+use crate::print::print;
+use crate::print::print_last;
+use crate::print::print_number;
+use search::Search;
+use sets::mask::Mask;
+use sets::mask::member;
+
+// The most lines, and the most entries, that are printed one by one. Of more there are the count and the sums.
+const MOST_PRINTED: usize = 16;
+
+// Two sums over a row of words, both without what passes 64 bits: that of the words, and that of the first sum after each word.
+struct Sum {
+    words: u64,
+    sums: u64,
+}
+
+// The sums with one word more.
+fn add_word(sum: Sum, word: u64) -> Sum {
+    let words = std::num::wrapping_add_u64(sum.words, word);
+    let sums = std::num::wrapping_add_u64(sum.sums, words);
+    Sum { words, sums }
+}
+
+// The sums with the words of an array more.
+fn add_words(sum: Sum, words: &[u64]) -> Sum {
+    let mut sum = sum;
+    for i in 0..words.len() {
+        sum = add_word(sum, words[i]);
+    }
+    sum
+}
+
+// The sums over all words of a search, unused room too, in the order of its fields.
+fn sum_of(s: Search) -> Sum {
+    let sum = Sum { words: 0, sums: 0 };
+    let sum = add_word(sum, s.entries as u64);
+    let sum = add_word(sum, s.lines as u64);
+    let sum = add_words(sum, &s.weight);
+    let sum = add_words(sum, &s.chosen_low);
+    let sum = add_words(sum, &s.chosen_high);
+    let sum = add_words(sum, &s.pending_low);
+    let sum = add_words(sum, &s.pending_high);
+    let sum = add_words(sum, &s.line_weight);
+    let sum = add_words(sum, &s.line_low);
+    add_words(sum, &s.line_high)
+}
+
+// Prints the atom after a blank, if it is in the set.
+fn print_member(set: Mask, atom: u8) {
+    if member(set, atom) {
+        print_number(b" ", atom as u64);
+    }
+}
+
+// Prints the atoms of a set in two words, ascending.
+fn print_set(low: u64, high: u64) {
+    let set = Mask { low, high };
+    for atom in 0..128u8 {
+        print_member(set, atom);
+    }
+}
+
+// Prints the line at an index, `line W A A ..`.
+fn print_line(s: Search, i: usize) {
+    if i < 256 {
+        print_number(b"line ", s.line_weight[i]);
+        print_set(s.line_low[i], s.line_high[i]);
+        print(b"\n");
+    }
+}
+
+// Prints the entry at an index, `entry W A A .. pending A A ..`.
+fn print_entry(s: Search, i: usize) {
+    if i < 512 {
+        print_number(b"entry ", s.weight[i]);
+        print_set(s.chosen_low[i], s.chosen_high[i]);
+        print(b" pending");
+        print_set(s.pending_low[i], s.pending_high[i]);
+        print(b"\n");
+    }
+}
+
+// Prints so many lines, or so many entries, of which the first one stands last.
+fn print_rows(s: Search, count: usize, lines: bool) {
+    for i in 0..count {
+        if lines {
+            print_line(s, i);
+        } else {
+            print_entry(s, count - 1 - i);
+        }
+    }
+}
+
+// Prints a search.
+pub(crate) fn print_search(s: Search) {
+    let sum = sum_of(s);
+    print_number(b"entries ", s.entries as u64);
+    print_number(b" lines ", s.lines as u64);
+    print_number(b" sum ", sum.words);
+    print_last(b" ", sum.sums);
+    if s.lines <= MOST_PRINTED {
+        print_rows(s, s.lines, true);
+    }
+    if s.entries <= MOST_PRINTED {
+        print_rows(s, s.entries, false);
+    }
+}
