@@ -4,7 +4,7 @@
      firmware listings FILE       listing
      firmware sizes FILE          the sizes of vilthomm.h; load and listing by them
 
-   The containers and the lines of replay are those of the program of this name (crates/replay/src/main.rt);
+   The containers and the lines of replay are those of the program of this name (crates/replay/src/main.rt), whose driven.bin is here driven by load, open and run;
    those of listings and sizes are in tests/checks/firmware.py, which compares the lines with the enumerator's. After each call the bytes lent are compared with a copy, and
    what must be 0 beside a refusal is tested. */
 #include "firmware/container.h"
@@ -129,6 +129,7 @@ int main(int count, char **words)
         items(words[2], "/handed.bin", search_item);
         items(words[2], "/shares.bin", search_item);
         items(words[2], "/changed.bin", search_item);
+        items(words[2], "/driven.bin", driven_item);
     } else if (count == 3 && !strcmp(words[1], "listings")) {
         items(words[2], "", listing_item);
     } else if (count == 3 && !strcmp(words[1], "sizes")) {

@@ -17,9 +17,9 @@ import sys
 
 sys.dont_write_bytecode = True
 
-from containers import (boards_bin, changed_bin, handed_bin,    # noqa: E402
-                        records_bin, runs_bin, shares_bin, states_bin,
-                        tables_bin)
+from containers import (boards_bin, changed_bin, driven_bin,    # noqa: E402
+                        handed_bin, records_bin, runs_bin, shares_bin,
+                        states_bin, tables_bin)
 from storing import Program                                     # noqa: E402
 
 FILES = {"boards.bin": boards_bin, "states.bin": states_bin,
@@ -27,7 +27,7 @@ FILES = {"boards.bin": boards_bin, "states.bin": states_bin,
 ACTS = {"runs.bin": runs_bin, "handed.bin": handed_bin,
         "shares.bin": shares_bin, "changed.bin": changed_bin}
 
-PROGRAM = Program("replay", {**FILES, **ACTS})
+PROGRAM = Program("replay", {**FILES, **ACTS, "driven.bin": driven_bin})
 OF_FILES, OF_ACTS = Program("replay", FILES), Program("replay", ACTS)
 
 if __name__ == "__main__":

@@ -1,5 +1,5 @@
-"""The containers of acts for the program replay, and what is stored in
-crates/replay."""
+"""The containers of acts and of runs by `drive` for the program replay, and
+what is stored in crates/replay."""
 
 import os
 from functools import lru_cache
@@ -8,8 +8,8 @@ import enumerator as en
 from checks.demand3 import Truth, hold_run
 from checks.stored import hold_container
 from checks.tally import TESTS, section
-from containers.acts import (Open, Run, Share, TrueWeight, carried_out,
-                             lines_of)
+from containers import acts, driven_bin
+from containers.acts import Open, Run, Share, TrueWeight
 from containers.fields import faults, fields_of, room_fault, search_of
 from replay import ACTS, FILES, OF_FILES, PROGRAM
 
@@ -145,22 +145,39 @@ def hold_answer(tally, what, one, met):
                    one.after)
 
 
-def hold_items(tally, name, met):
-    """A container of acts; gives its lines."""
+def hold_items(tally, name, of_items, met):
+    """A container of acts, or of runs by `drive`, as `of_items` has them;
+    gives its lines."""
     written, items = hold_container(tally, PROGRAM, name)
     printed = []
     for item in items:
-        done = list(carried_out(*item[1:]))
-        printed += lines_of(done)
+        done = list(of_items.carried_out(*item[1:]))
+        printed += of_items.lines_of(done)
         what = "%s, %s" % (name, item.name)
         hold_item(tally, what, done, met)
         hold_true_weights(tally, what, done, met)
-        for answer in filter(None, map(answer_of, done[1:])):
+        for answer in (driven_answers if of_items is driven_bin
+                       else act_answers)(done):
             met.answer(name, answer)
     print("  %s: %d items, %d bytes: %s" % (
         name, len(items), len(written), ", ".join(
             "%s %d" % answer for answer in sorted(met.answers[name].items()))))
     return printed
+
+
+def act_answers(done):
+    """The answer of each act that has one."""
+    return filter(None, map(answer_of, done[1:]))
+
+
+def driven_answers(done):
+    """What is handed back: that of opening and that of the last run, and of
+    the run before it."""
+    _, opened, *ran = done
+    yield answer_of(opened)
+    yield answer_of(ran[-1]) if ran else "no run"
+    if len(ran) > 1:
+        yield "after %s" % ran[-2].answer.answer
 
 
 @section("acts for the program replay, and what is stored in crates/replay")
@@ -170,7 +187,8 @@ def replay_files(tally):
     printed = [line for name in FILES for lines in OF_FILES.lines_of()[name]
                for line in lines]
     for name in ACTS:
-        printed += hold_items(tally, name, met)
+        printed += hold_items(tally, name, acts, met)
+    printed += hold_items(tally, "driven.bin", driven_bin, met)
     for name, container in PROGRAM.containers.items():
         hold_stored(tally, os.path.join(folder, "data", name),
                     PROGRAM.written(container))
@@ -207,7 +225,12 @@ def hold_met(tally, met):
             ("shares.bin", 20, ("share told", "share 34", "share 36")),
             ("changed.bin", 20, ("open 20", "run 20", "run 34", "run done",
                                  "run more", "share 20", "share 34",
-                                 "share 36", "share told"))):
+                                 "share 36", "share told")),
+            ("driven.bin", 5, (
+                "open accepted", "open 20", "open 21", "open 22", "open 23",
+                "no run", "run done", "run more", "run 31", "run 32",
+                "run 33", "after done", "after more", "after 32")),
+            ("driven.bin", 3, ("after 31", "after 33"))):
         for answer in answers:
             tally.true("%s: %d times %s" % (container, least, answer),
                        met.answers[container].get(answer, 0) >= least)

@@ -28,7 +28,7 @@ ARCHIVE = os.path.join("target", "staticlib", "libfirmware.a")
 HEADER = os.path.join("include", "vilthomm.h")
 SOURCES = [os.path.join("tests", name) for name in (
     "firmware.c", "firmware/calls.c", "firmware/container.c",
-    "firmware/searching.c")]
+    "firmware/searches.c")]
 FLAGS = ["-Wall", "-Wextra", "-Werror", "-pedantic"]
 TEXT = 37203                # bytes that every listing fits into
 FILE = 3334                 # bytes of a file that decide

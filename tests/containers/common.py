@@ -53,9 +53,10 @@ def part_bytes(part):
     return len(part).to_bytes(2, "little") + part
 
 
-# A two-byte length and that many bytes; atoms.
+# A two-byte length and that many bytes; atoms; allowances.
 PART = Form(part_bytes, lambda take: take(number(2).taken(take)))
 ATOMS = counted(number(1))
+ALLOWANCES = counted(number(2))
 
 
 def forms(tail):

@@ -32,7 +32,8 @@ vilthomm_holds_answer ask(vilthomm_table table, const uint8_t *state, size_t cou
 /* Sets one field of a table, by its number; an index past an array sets nothing. */
 void set_in_table(vilthomm_table *table, unsigned field, size_t index, uint64_t value);
 
-/* A board file and acts on its table. */
+/* A board file and acts on its table. A board file, a question, and allowances to run with. */
 void search_item(void);
+void driven_item(void);
 
 #endif

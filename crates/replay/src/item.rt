@@ -12,14 +12,21 @@ use crate::field::set_in_table;
 use crate::print::print;
 use crate::print::print_last;
 use crate::print::print_loaded;
+use crate::print::print_opened;
+use crate::print::print_ran;
 use crate::print::print_read;
 use crate::print::print_refused_at;
 use crate::print::print_told;
+use crate::state::print_search;
 use board::Loaded;
 use board::facts::whole_weight;
+use bounds::Driven;
+use bounds::Last;
+use bounds::drive;
 use files::accepted::is_table;
 use files::load::load;
 use files::record::read_record;
+ghost use mathlib.Core.Path.{_≡_};
 ghost use Prim.Native.Nat.{_<_, _≤_};
 ghost use lib.ListN.{length};
 
@@ -30,6 +37,7 @@ pub(crate) enum Kind {
     Records,
     Tables,
     Acts,
+    Driven,
 }
 
 // Prints `accepted W` or `refused N at P`.
@@ -74,6 +82,48 @@ fn acts_item(file: &[u8], script: &[u8]) {
     acts(table, script);
 }
 
+// The 256 numbers of two bytes each that stand at a place.
+fn numbers_at(s: &[u8], at: usize) -> [u16; 256]
+    ensures { λ r. ⌜ 256 ≡ length r ⌝ }
+{
+    let mut numbers = [0u16; 256];
+    let mut place = at;
+    for i in 0..256usize {
+        numbers[i] = two_bytes(s, place) as u16;
+        place = past(s, place, 2);
+    }
+    numbers
+}
+
+// Prints `no run` or what the last run answered.
+fn print_last_run(last: Last) {
+    match last {
+        Last::NoRun => print(b"no run\n"),
+        Last::Ran(ending, steps, low, high) => print_ran(ending, steps, low, high),
+    }
+}
+
+// Prints what the driver hands back.
+fn print_driven(driven: Driven) {
+    let loaded = driven.loaded;
+    let opened = driven.opened;
+    let after = driven.after;
+    let last = after.last;
+    print_loaded(loaded);
+    print_opened(opened);
+    print_last_run(last);
+    print_search(after.search);
+}
+
+// Drives with a question and allowances.
+fn driven_item(file: &[u8], s: &[u8], at: usize) {
+    let question = atoms(s, at);
+    let count = after_atoms(s, at);
+    let n = byte_at(s, count);
+    let allowances = numbers_at(s, past(s, count, 1));
+    print_driven(drive(file, question, &allowances[0..n]));
+}
+
 // Carries out the item at `at`.
 pub(crate) fn item(kind: Kind, s: &[u8], at: usize) {
     let file = part(s, at);
@@ -84,6 +134,7 @@ pub(crate) fn item(kind: Kind, s: &[u8], at: usize) {
         Kind::Records => print_read(read_record(file, four_bytes(s, rest))),
         Kind::Tables => table_item(file, s, rest),
         Kind::Acts => acts_item(file, part(s, rest)),
+        Kind::Driven => driven_item(file, s, rest),
     }
 }
 
@@ -99,5 +150,9 @@ pub(crate) fn next_item(kind: Kind, s: &[u8], at: usize) -> usize
         Kind::Records => past(s, rest, 4),
         Kind::Tables => past(s, rest, 7),
         Kind::Acts => after_part(s, rest),
+        Kind::Driven => {
+            let count = after_atoms(s, rest);
+            past(s, past(s, count, 1), 2 * byte_at(s, count))
+        }
     }
 }

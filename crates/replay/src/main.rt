@@ -16,6 +16,7 @@
 //                    4  a field's number in one byte, an index in two and a value in eight: sets a field of the search
 //                    5  the same for a field of the table
 //                    6  goes through all board states and sums the weights of those in which the question last opened holds (`truth`)
+//     driven.bin     a question, and allowances in two bytes each, both after their count in one byte: drives with them
 //
 // What is printed of each answer is said in `print`, of a search in `state`.
 use item::Kind;
@@ -80,4 +81,5 @@ fn main() {
     replay(b"handed.bin", Kind::Acts, buffer);
     replay(b"shares.bin", Kind::Acts, buffer);
     replay(b"changed.bin", Kind::Acts, buffer);
+    replay(b"driven.bin", Kind::Driven, buffer);
 }
