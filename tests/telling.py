@@ -1,7 +1,7 @@
 #!/usr/bin/env python3
-"""Whether the cases of the searching program tell: wrong readings of document
-01, one by one in the place of the right one, and the first item that then
-prints something else.
+"""Whether the cases of the program replay tell: wrong readings of document 01,
+one by one in the place of the right one, and the first item that then prints
+something else.
 
     python3 telling.py                    all wrong readings, a minute
     python3 telling.py WORD...            those whose names have one of the
