@@ -217,6 +217,26 @@ def hold_sizes(tally):
     hold_lines(tally, "sizes", b"".join(wanted), "sizes", container)
 
 
+def hold_symbols(tally):
+    """The archive has the functions of the header and no other name, nothing
+    of the driver, and needs memcpy and memset alone."""
+    if shutil.which("nm") is None:
+        print("  nm is not installed: the archive's names are not tried")
+        return
+    text = en.file_bytes(os.path.join(TOP, HEADER)).decode("ascii")
+    status, said, _ = ran("nm", "-P", ARCHIVE)
+    found = re.findall(r"^(\S+) ([A-Za-z])\b", said.decode(), re.MULTILINE)
+    for what, kind, wanted in (
+            ("functions", "T", re.findall(r"^\w+ (vilthomm_\w+)\(", text,
+                                          re.MULTILINE)),
+            ("needs", "U", ["memcpy", "memset"])):
+        tally.same("the archive's " + what,
+                   sorted(name for name, one in found if one == kind),
+                   sorted(wanted))
+    tally.true("the archive has nothing of the driver",
+               status == 0 and b"drive" not in said)
+
+
 def hold_programs(tally, command):
     """tests/firmware.c and examples/firmware.c, linked to the archive."""
     built = [*command, "-std=c99", *FLAGS]
@@ -252,4 +272,5 @@ def functions(tally):
         print("  rt is not installed: no archive, the functions are not tried")
     elif succeeds(tally, "rt staticlib firmware", "rt", "staticlib",
                   "firmware"):
+        hold_symbols(tally)
         hold_programs(tally, command)
