@@ -43,12 +43,14 @@ pub const FILE_BYTES: usize = 3334;
 
 pub const INPUT_BYTES: usize = 11;
 
+// The law's number for a file (`fileBytes`), which is `FILE_BYTES`. 1 basic step.
 pub fn file_bytes() -> usize
     ensures { λ r. ⌜ r ≡ fileBytes ⌝ }
 {
     FILE_BYTES
 }
 
+// The law's number for an input (`inputBytes`), which is `INPUT_BYTES`. 1 basic step.
 pub fn input_bytes() -> usize
     ensures { λ r. ⌜ r ≡ inputBytes ⌝ }
 {

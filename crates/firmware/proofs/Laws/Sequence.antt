@@ -1,15 +1,20 @@
--- Demand 3 under C names, proved. Assumes nothing.
+-- Demand 3 and what 32 says, under C names, proved. Assumes nothing.
 use Prim.Native.Nat.{ℕ}
 use mathlib.Core.Path.{_≡_, refl, ap₂, _∙_}
 use mathlib.Core.List.{List, [], _∷_, map}
+use Rattle.board.specs.Answers.{granted}
+use Rattle.board.specs.Table.{boardOf}
 use Rattle.board.specs.declared.Table.{Table}
-use Rattle.search.specs.Search.{bench}
-use Rattle.search.specs.EntryPoints.{RunAnswer, openedSearch, runSearch}
+use Rattle.search.specs.Search.{Search, bench}
+use Rattle.search.specs.Store.{storedOf}
+use Rattle.search.specs.EntryPoints.{RunAnswer, openQuestion, openedSearch, runSearch}
 use Rattle.search.specs.declared.Search.{Search as Stored}
-use Rattle.bounds.specs.Demand3.{runs}
+use Rattle.bounds.specs.Demand3.{runs, Right, Claim}
+use Rattle.bounds.specs.Overlap.{OverlapReported}
 use Rattle.bounds.proofs.Demand3.{demand3-table}
+use Rattle.bounds.proofs.Overlap.{overlap-table}
 use Rattle.firmware.specs.Answers.{openAnswer, runAnswer}
-use Rattle.firmware.specs.Sequence.{readAnswer, calls, Demand3InC}
+use Rattle.firmware.specs.Sequence.{readAnswer, calls, AfterCalls, Demand3InC, OverlapInC}
 use Rattle.firmware.proofs.Laws.Endings.{run-read}
 use Rattle.firmware.proofs.Laws.Numbers.{number-open}
 
@@ -20,9 +25,19 @@ calls-read t s [] = refl
 calls-read t s (allowance ∷ rest) =
     ap₂ {C = List RunAnswer} (λ r rs. r ∷ rs) (run-read bench t s allowance) (calls-read t (runSearch bench t s allowance .search) rest)
 
--- demand 3
-pub demand3-in-c : Demand3InC
-unfolding Demand3InC openAnswer openedSearch
-demand3-in-c t question accepted allowances =
+-- what always holds of the runs holds of the calls
+after-calls : (P : Claim)
+    → ((t : Table) (question : List ℕ) (s : Search) → openQuestion t question ≡ granted s → (allowances : List ℕ)
+    → P (boardOf t) question (storedOf s) (runs bench t (storedOf s) allowances)) → AfterCalls P
+unfolding AfterCalls openAnswer openedSearch
+after-calls P always t question accepted allowances =
     let (s, on) = number-open t question accepted in
-    rw (on, calls-read) (demand3-table t question s on allowances)
+    rw (on, calls-read) (always t question s on allowances)
+
+pub demand3-in-c : Demand3InC
+unfolding Demand3InC
+demand3-in-c = after-calls Right demand3-table
+
+pub overlap-in-c : OverlapInC
+unfolding OverlapInC
+overlap-in-c = after-calls OverlapReported overlap-table

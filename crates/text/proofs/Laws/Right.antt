@@ -15,8 +15,7 @@ use Rattle.board.specs.Load.{load}
 use Rattle.board.specs.Table.{tableOf}
 use Rattle.board.proofs.Promise.{Accepted, accepted-iff}
 use Rattle.search.specs.Search.{Search, bench}
-use Rattle.search.specs.Store.{storedOf}
-use Rattle.search.specs.EntryPoints.{openQuestion, runSearch}
+use Rattle.search.specs.EntryPoints.{openQuestion}
 use Rattle.search.specs.Listing.{openedText, askedText, loadedText, opened, listing, listingAt}
 use Rattle.bounds.specs.Demand3.{runs}
 use Rattle.bounds.proofs.Demand3.{demand3-board}
@@ -25,12 +24,12 @@ use Rattle.text.specs.Right.{PrintsRight, ListsRight}
 
 -- the listing
 listing-right : (file : List ℕ) → T (areBytes file) → (b : Board) → load file ≡ accepted b → (count : ℕ) (input : List ℕ) → count + 2 ≤ length input
-    → (s : Search) → openQuestion (tableOf b) (take count input) ≡ granted s → PrintsRight b (take count input) s (listing (some file) (count ∷ input))
+    → (s : Search) → openQuestion (tableOf b) (take count input) ≡ granted s
+    → PrintsRight b (take count input) s (getD input count 0 + 256 * getD input (count + 1) 0) (listing (some file) (count ∷ input))
 unfolding listing listingAt opened loadedText askedText openedText runs
 listing-right file bytes b loaded count input enough s on =
     let allowance = getD input count 0 + 256 * getD input (count + 1) 0 in
     record {
-      answer = runSearch bench (tableOf b) (storedOf s) allowance;
       printed = rw (loaded, le-ltb (length input) (count + 2) enough, on);
       right = demand3-board b (accepted-iff b .1 (file, bytes, loaded)) (take count input) s on (allowance ∷ []);
     }
