@@ -28,7 +28,7 @@ STILL_RIGHT = ("the lines listed are right and in order, and low and high "
 STOPPED = {
     "31": "stopped with 31: the search has no room for more than 512 open "
           "proofs; " + STILL_RIGHT,
-    "32": "stopped with 32: two of the board's explanations can be true "
+    "32": "stopped with 32: two explanations of the reading can be true "
           "together; " + STILL_RIGHT
           + "; examples/amplifier/README.md says how to mend the board file",
     "33": "stopped with 33: the list is full, it has 256 lines; "
