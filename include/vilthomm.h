@@ -32,7 +32,7 @@
      well formed and that no run left is run as it stands, but its lines and ends then say nothing of the board.
 
    HOW LONG A CALL CAN TAKE, AND HOW MUCH STACK
-   In basic steps of the machine (an addition, a comparison, a load, a store), on any input. The stack is measured, on boards that take most: what the
+   In basic steps of the machine (an addition, a comparison, a load, a store), on any input, counted by hand from the sources. The stack is measured, on boards that take most: what the
    function itself writes, and in brackets with the arguments and the result that the caller holds for it.
 
                             basic steps, at most some                   KiB of stack
@@ -117,9 +117,10 @@ enum {
     VILTHOMM_REFUSED_ASKED_ORDER = 23, /* asked order: asked atoms not strictly ascending */
     VILTHOMM_REFUSED_BOARD_STATE = 25, /* board state: not one choice per declaration, or a choice from elsewhere */
     VILTHOMM_REFUSED_STORE_FULL = 31,  /* store full: more than 512 entries, held and new ones, would be held after the step */
-    VILTHOMM_REFUSED_OVERLAP = 32,     /* overlap: two different minimal explanations of the question are compatible, so their weights must not be added */
+    VILTHOMM_REFUSED_OVERLAP = 32,     /* overlap: an explanation is next that is compatible with a listed one which it does not contain; so two
+                                          different minimal explanations of the question are compatible, and their weights must not be added */
     VILTHOMM_REFUSED_LIST_FULL = 33,   /* list full: a 257th line */
-    VILTHOMM_REFUSED_SEARCH = 34,      /* search: a search that is not well formed; no open and no run over this table leaves such a one */
+    VILTHOMM_REFUSED_SEARCH = 34,      /* search: a search that is not well formed; no open over this table leaves such a one, nor a run that was not itself refused with 34 */
     VILTHOMM_REFUSED_LINE = 36         /* line: no such line */
 };
 
@@ -178,7 +179,7 @@ typedef struct vilthomm_answer {
     uint64_t high;
 } vilthomm_answer;
 
-/* What vilthomm_share answers. Number 0: the share, 0 to 1000. Refused: the number, and 0. */
+/* What vilthomm_share answers. Number 0: the share. Refused: the number, and 0. */
 typedef struct vilthomm_share_answer {
     uint64_t number;
     uint64_t thousandths;

@@ -16,7 +16,8 @@ An edit is written as those that `rt ci` tries, with one line more:
 The file has the first error, and NAME is the need or the law that the error
 names, if it names one.  (Of a function without a proof file it is the file
 that the prover asks for.)  So an edit that makes a fact false is told from one
-that only makes a proof unfit for the code.
+after which a proof names what is no longer there.  A need that is still true
+and whose proof no longer fits is for whoever writes the `at:` line to see.
 
 Each crate is tried by `rt dev` in a copy of the repository: proved before, not
 proved with each of its edits, proved after.  An edit costs a quarter there of

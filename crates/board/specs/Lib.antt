@@ -1,6 +1,6 @@
 -- What boards, their files and their tables mean, in the order of document 01: read Sizes, Answers, Board, Holds, Accepted, File, Load, Table,
--- EntryPoints, Facts. The contracts of `board`, `files` and `holding` cite these. The lists and sets of atoms that these lean on are the crate `sets`'.
--- `Private` has what only contracts of private functions cite.
+-- EntryPoints. The contracts of `board`, `files` and `holding` cite these. The lists and sets of atoms that these lean on are the crate `sets`'.
+-- `Facts` has what contracts between crates cite, `Private` what only those of private functions do.
 pub mod Accepted
 pub mod Answers
 pub mod Board

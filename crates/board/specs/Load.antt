@@ -99,7 +99,8 @@ unfoldable pub passing : {A B : Type 0} → FileAnswer A → (A → FileAnswer B
 passing (accepted x) next = next x
 passing (refusedAt number place) next = refusedAt number place
 
--- the record at a place, if it passes: "no byte left, 1; unknown kind, 2; wrong place, 3; body too short, 1; then the field checks"
+-- the record at a place, if it passes: "no byte left, 1; unknown kind, 2; wrong place, 3; body too short, 1; then the field checks". 3 is told of a record of
+-- known kind alone (`misplacedAt`), so no byte left and an unknown kind go before it.
 unfoldable pub checked : List ℕ → ℕ → Board → FileAnswer Found
 checked file at b =
     cond (misplacedAt file at b) (refusedAt 3 at)

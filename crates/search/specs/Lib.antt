@@ -1,4 +1,5 @@
--- What `search` means, in the order of document 01: read Explanations, Order, Entries, Search, Store, EntryPoints, Listing; Cases last.
+-- What `search` means, in the order of document 01: read Explanations, Order, Search, Store, EntryPoints, Listing; Cases last. `Entries` has
+-- what contracts between crates cite.
 pub mod Explanations
 pub mod Order
 pub mod Entries
