@@ -50,7 +50,7 @@
      by the board, as long as 1,400 to 3,800 steps there, and less over a small search. So a run of 1,000 steps takes up to 120 to 240 microseconds, most of
      it tests. Few long runs are cheaper than many short ones.
    - A share makes the same tests, at each call: up to 85 to 140 microseconds. Of a whole list, line_weight[i] * 1000 / low of a run's answer is the same.
-   - In long runs the library takes 2.6 to 5.2 times the steps a second of plain C with its entries sorted in one array, 0.85 to 1.7 times those of the same
+   - In long runs the library takes 2.7 to 5.2 times the steps a second of plain C with its entries sorted in one array, 0.9 to 1.7 times those of the same
      C with an array that has their order, and 0.25 to 0.9 times those of the fastest C that was found. That C tests nothing.
    - On the dearest board that was found (217 rules of one atom, pending again and again beside 500 entries), runs of 1,000 steps take up to 13 microseconds
      a step, so 13 milliseconds. That no board is dearer is not claimed.

@@ -35,6 +35,10 @@ def command_refusals(tally):
             (["plot", "none.pha", "7"], "there is no file none.pha"),
             (["polt", board, "7"], "there is no command and no board file "
              "'polt'; did you mean 'plot'?"),
+            (["polt"], "there is no command and no board file 'polt'; did you "
+             "mean 'plot'?"),
+            (["hlep"], "there is no command and no board file 'hlep'; see "
+             "./vilthomm --help"),
             (["Plot", board, "7"], "did you mean 'plot'?"),
             (["plto"], "did you mean 'plot'?"),
             (["list", board, "7"], "there is no command and no board file "
