@@ -124,10 +124,10 @@ static void print_many(const char *name, const samples *of)
     printf("\n");
 }
 
-double print_along(const test *t, unsigned tests)
+in_steps print_along(const test *t, unsigned tests)
 {
     samples *of = calloc(tests, sizeof *of);
-    double most = 0;
+    in_steps dear = {0, 0};
     for (unsigned i = 0; i < tests; i++)
         take_samples(&t[i], &of[i]);
     printf("\nA run of %d steps: the longest on that stretch, in microseconds\n", MANY);
@@ -139,9 +139,10 @@ double print_along(const test *t, unsigned tests)
     print_head();
     printf("    in steps   where that is most%s\n", OURS ? "            a share" : "");
     for (unsigned i = 0; i < tests; i++) {
-        double steps = print_none(t[i].asked.name, &of[i]);
-        most = steps > most ? steps : most;
+        double most = print_none(t[i].asked.name, &of[i]), first = none_in_steps(&of[i], 0);
+        dear.most = most > dear.most ? most : dear.most;
+        dear.first = first > dear.first ? first : dear.first;
     }
     free(of);
-    return most;
+    return dear;
 }

@@ -153,7 +153,7 @@ static void print_speeds(const test *t, unsigned tests)
     print_speed("all", steps, all);
     if (OURS) {
         goal("ours/plain, over all boards", ours_over(all, PLAIN), "at least", 2.8);
-        goal("ours/plain, on every board", over_plain, "at least", 2.4);
+        goal("ours/plain, on every board", over_plain, "at least", 2.5);
         goal("ours/ordered, over all boards", ours_over(all, ORDERED), "at least", 1.2);
         goal("ours/ordered, on every board", over_ordered, "at least", 0.75);
     }
@@ -202,9 +202,11 @@ int main(int count, char **names)
             fullest = i;
     }
     print_speeds(t, tests);
-    double steps = print_along(t, tests);
-    if (OURS)
-        goal("a run of no steps, in steps", steps, "at most", 4500);
+    in_steps none = print_along(t, tests);
+    if (OURS) {
+        goal("in steps, where a stretch begins", none.first, "at most", 1500);
+        goal("in steps, wherever on it", none.most, "at most", 4500);
+    }
     prepare(names[1], &dear);
     print_dear(&dear);
     if (OURS) {
