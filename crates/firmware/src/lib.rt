@@ -1,8 +1,6 @@
 // The entry points under C names, for `rt staticlib firmware`; `include/vilthomm.h` declares them. Each calls the entry point of a crate below and hands
 // on what it answers, an enum written as a number: 0 where nothing was refused (of a run 0 for done and 1 for more), else the refusal's number. In C a slice
 // is two arguments, a pointer and a length.
-use asking::open;
-use asking::share;
 use board::Loaded;
 use board::Table;
 use board::Told;
@@ -10,11 +8,13 @@ use board::facts::whole_weight;
 use files::accepted::is_table;
 use files::load::load;
 use holding::yes_or_no;
+use opening::open;
 use running::run;
 use search::Ending;
 use search::Opened;
 use search::Search;
 use search::Share;
+use shares::share;
 use text::listing;
 ghost use mathlib.Core.Path.{_≡_};
 ghost use mathlib.Core.Option.{some};

@@ -39,7 +39,7 @@ struct Held {
 
 // Opens the question, prints the answer, and hands back the search that it leaves.
 fn opened(t: Table, question: &[u8]) -> Search {
-    let opening = asking::open(t, question);
+    let opening = opening::open(t, question);
     let answer = opening.answer;
     let left = opening.search;
     print_opened(answer);
@@ -87,7 +87,7 @@ fn after_act(s: &[u8], at: usize, held: Held) -> Held {
             asked = from;
         }
         RUN => search = ran(table, search, two_bytes(s, from) as u16),
-        SHARE => print_share(asking::share(table, search, eight_bytes(s, from))),
+        SHARE => print_share(shares::share(table, search, eight_bytes(s, from))),
         SET_IN_SEARCH => search = set_in_search(search, field, index, value),
         SET_IN_TABLE => table = set_in_table(table, field, index, value),
         TRUE_WEIGHT => print_true(table, atoms(s, asked)),

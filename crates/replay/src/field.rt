@@ -35,27 +35,17 @@ pub(crate) fn set_in_table(t: Table, field: usize, index: usize, value: usize) -
 pub(crate) fn set_in_search(s: Search, field: usize, index: usize, value: usize) -> Search {
     let mut s = s;
     let word = value as u64;
-    match field {
-        0 => s.entries = value,
-        1 => s.lines = value,
-        _ => {}
-    }
-    if index < 512 {
-        match field {
-            2 => s.weight[index] = word,
-            3 => s.chosen_low[index] = word,
-            4 => s.chosen_high[index] = word,
-            5 => s.pending_low[index] = word,
-            6 => s.pending_high[index] = word,
-            _ => {}
+    if field == 0 {
+        s.entries = value;
+    } else if field == 1 {
+        s.lines = value;
+    } else if field < 7 {
+        if index < 512 {
+            s.entry[5 * index + field - 2] = word;
         }
-    }
-    if index < 256 {
-        match field {
-            7 => s.line_weight[index] = word,
-            8 => s.line_low[index] = word,
-            9 => s.line_high[index] = word,
-            _ => {}
+    } else if field < 10 {
+        if index < 256 {
+            s.line[256 * (field - 7) + index] = word;
         }
     }
     s

@@ -3,6 +3,8 @@ use crate::print::print;
 use crate::print::print_last;
 use crate::print::print_number;
 use search::Search;
+use search::layout::entry_at;
+use search::layout::line_at;
 use sets::mask::Mask;
 use sets::mask::member;
 
@@ -22,6 +24,17 @@ fn add_word(sum: Sum, word: u64) -> Sum {
     Sum { words, sums }
 }
 
+// The sums with word k of the five of each entry more.
+fn add_entries(sum: Sum, s: Search, k: usize) -> Sum {
+    let mut sum = sum;
+    if k < 5 {
+        for i in 0..512 {
+            sum = add_word(sum, s.entry[5 * i + k]);
+        }
+    }
+    sum
+}
+
 // The sums with the words of an array more.
 fn add_words(sum: Sum, words: &[u64]) -> Sum {
     let mut sum = sum;
@@ -31,19 +44,17 @@ fn add_words(sum: Sum, words: &[u64]) -> Sum {
     sum
 }
 
-// The sums over all words of a search, unused room too, in the order of its fields.
+// The sums over all words of a search, unused room too: of the counts, of the entries' first words, then of their second, and so on, and of the lines likewise.
 fn sum_of(s: Search) -> Sum {
     let sum = Sum { words: 0, sums: 0 };
     let sum = add_word(sum, s.entries as u64);
     let sum = add_word(sum, s.lines as u64);
-    let sum = add_words(sum, &s.weight);
-    let sum = add_words(sum, &s.chosen_low);
-    let sum = add_words(sum, &s.chosen_high);
-    let sum = add_words(sum, &s.pending_low);
-    let sum = add_words(sum, &s.pending_high);
-    let sum = add_words(sum, &s.line_weight);
-    let sum = add_words(sum, &s.line_low);
-    add_words(sum, &s.line_high)
+    let sum = add_entries(sum, s, 0);
+    let sum = add_entries(sum, s, 1);
+    let sum = add_entries(sum, s, 2);
+    let sum = add_entries(sum, s, 3);
+    let sum = add_entries(sum, s, 4);
+    add_words(sum, &s.line)
 }
 
 // Prints the atom after a blank, if it is in the set.
@@ -53,9 +64,8 @@ fn print_member(set: Mask, atom: u8) {
     }
 }
 
-// Prints the atoms of a set in two words, ascending.
-fn print_set(low: u64, high: u64) {
-    let set = Mask { low, high };
+// Prints the atoms of a set, ascending.
+fn print_set(set: Mask) {
     for atom in 0..128u8 {
         print_member(set, atom);
     }
@@ -63,22 +73,20 @@ fn print_set(low: u64, high: u64) {
 
 // Prints the line at an index, `line W A A ..`.
 fn print_line(s: Search, i: usize) {
-    if i < 256 {
-        print_number(b"line ", s.line_weight[i]);
-        print_set(s.line_low[i], s.line_high[i]);
-        print(b"\n");
-    }
+    let l = line_at(&s.line, i);
+    print_number(b"line ", l.weight);
+    print_set(l.chosen);
+    print(b"\n");
 }
 
 // Prints the entry at an index, `entry W A A .. pending A A ..`.
 fn print_entry(s: Search, i: usize) {
-    if i < 512 {
-        print_number(b"entry ", s.weight[i]);
-        print_set(s.chosen_low[i], s.chosen_high[i]);
-        print(b" pending");
-        print_set(s.pending_low[i], s.pending_high[i]);
-        print(b"\n");
-    }
+    let e = entry_at(&s.entry, i);
+    print_number(b"entry ", e.weight);
+    print_set(e.chosen);
+    print(b" pending");
+    print_set(e.pending);
+    print(b"\n");
 }
 
 // Prints so many lines, or so many entries, of which the first one stands last.

@@ -6,4 +6,5 @@ pub mod EntryPoints
 pub mod Explanations
 pub mod Order
 pub mod Search
+pub mod Layout
 pub mod Store

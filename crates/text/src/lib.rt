@@ -5,7 +5,6 @@
 mod lines;
 mod put;
 
-use asking::open;
 use board::Loaded;
 use board::Table;
 use board::facts::whole_weight;
@@ -13,6 +12,7 @@ use board::walks::wide;
 use board::walks::wide16;
 use files::load::load;
 use lines::put_lines;
+use opening::open;
 use put::put_bytes;
 use put::put_ended;
 use put::put_labelled;
@@ -28,7 +28,7 @@ ghost use lib.Dec.{T};
 ghost use lib.ListN.{length};
 ghost use Rattle.board.specs.Table.{boardOf, isTable};
 ghost use Rattle.search.specs.EntryPoints.{openQuestion, endingMeans, runSearch};
-ghost use Rattle.search.specs.Search.{bench, roomLines};
+ghost use Rattle.search.specs.Search.{bench};
 ghost use Rattle.search.specs.Listing.{bytesOf, endingText, endsText, ranText, refusedText, refusedFileText, openedText, askedText, listing};
 ghost use Rattle.text.specs.Deciding.{fileBytes, inputBytes};
 ghost use Rattle.text.specs.Lent.{mostText, LentAs};
@@ -101,7 +101,6 @@ fn put_refused_file(text: &mut [u8], number: u8, place: usize) -> usize
 // Runs a search and puts what is printed of the run.
 fn put_run(text: &mut [u8], t: Table, from: Search, allowance: u16) -> usize
     requires { ⌜ T (isTable t) ⌝ }
-    requires { ⌜ runSearch bench t from allowance .search .lines ≤ roomLines ⌝ }
     requires { ⌜ HasRoom (now text) 0 (ranText (boardOf t) (runSearch bench t from allowance)) ⌝ }
     ensures { λ r. ⌜ PutAs (now (text .entry)) 0 (ranText (boardOf t) (runSearch bench t from allowance)) (now (text .exit)) r ⌝ }
 {
@@ -109,14 +108,7 @@ fn put_run(text: &mut [u8], t: Table, from: Search, allowance: u16) -> usize
     let ending = ran.ending;
     let whole = whole_weight(&t.declaration, &t.weight, t.hypotheses);
     let lines = put_ended(text, 0, b"total ", whole);
-    let end = put_lines(
-        text,
-        lines,
-        &ran.search.line_weight,
-        &ran.search.line_low,
-        &ran.search.line_high,
-        ran.search.lines,
-    );
+    let end = put_lines(text, lines, &ran.search.line, ran.search.lines);
     put_last(text, end, ran.low, ran.high, ran.steps, ending)
 }
 

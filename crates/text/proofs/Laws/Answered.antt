@@ -18,7 +18,7 @@ use Rattle.board.specs.declared.Table.{Table}
 use Rattle.board.specs.declared.Loading.{Loading}
 use Rattle.board.specs.declared.Loaded.the-variants as loaded
 use Rattle.board.proofs.Promise.{Accepted, isTable-board, isTable-stored, accepted-isTable, tableIn-accepted, boardOf-tableOf, accepted-of, refusedAt-of, accepted-iff}
-use Rattle.search.specs.Search.{Search, bench, roomLines}
+use Rattle.search.specs.Search.{Search, bench}
 use Rattle.search.specs.Store.{storedOf}
 use Rattle.search.specs.EntryPoints.{openQuestion, openedSearch, OpensAs, RunAnswer, runSearch}
 use Rattle.search.specs.declared.Opening.{Opening}
@@ -28,7 +28,7 @@ use Rattle.search.proofs.Laws.EntryPoints.{granted-of, refused-of, opened-quest
 use Rattle.search.proofs.Laws.Store.{Formed}
 use Rattle.search.proofs.Laws.Store.Steps.{opening-formed}
 use Rattle.text.specs.Lent.{mostText}
-use Rattle.text.proofs.Laws.Length.{ran-length, ran-lines}
+use Rattle.text.proofs.Laws.Length.{ran-length}
 
 -- ---- a question
 
@@ -72,11 +72,6 @@ module _ (t : Table) (h : T (isTable t)) (question : List ℕ) (r : Opening) (op
     opened-length most =
         subst (λ (a : RunAnswer). length (ranText (boardOf t) a) ≤ mostText) (sym runs)
         (ran-length (boardOf t) (isTable-board t h) (was .0) formed allowance most)
-
-    pub opened-lines : allowance ≤ 65535 → runSearch bench t (r .search) allowance .search .lines ≤ roomLines
-    opened-lines most =
-        subst (λ (a : RunAnswer). a .search .lines ≤ roomLines) (sym runs)
-        (ran-lines (boardOf t) (isTable-board t h) (was .0) formed allowance most)
 
 -- ---- an input
 

@@ -13,7 +13,7 @@ use Rattle.board.specs.Sizes.{mostDeclarations, mostW}
 use Rattle.board.specs.Table.{tableOf}
 use Rattle.board.proofs.Promise.{Accepted, weightOf-le-W}
 use Rattle.search.specs.Order.{Line, finished}
-use Rattle.search.specs.Search.{Search, bench, roomLines, Ending, done, more, stopped, Ran, run}
+use Rattle.search.specs.Search.{Search, bench, Ending, done, more, stopped, Ran, run}
 use Rattle.search.specs.Store.{searchOf, storedOf, entryFits}
 use Rattle.search.specs.EntryPoints.{RunAnswer, runSearch}
 use Rattle.search.specs.Listing.{bytesOf, decimal, atomsText, lineText, endingText, lastText, ranText, refusedText, refusedFileText}
@@ -122,11 +122,6 @@ module _ (b : Board) (k : Accepted b) (s : Search) (formed : Formed bench b s) (
   -- the text of a run of a search that is well formed has room
   pub ran-length : length (ranText b (runSearch bench (tableOf b) (storedOf s) allowance)) ≤ mostText
   ran-length = subst (λ (r : RunAnswer). length (ranText b r) ≤ mostText) (sym (runSearch-answers bench b k s formed allowance)) answer-length
-
-  -- and as many lines as there is room for
-  pub ran-lines : runSearch bench (tableOf b) (storedOf s) allowance .search .lines ≤ roomLines
-  unfolding storedOf bench
-  ran-lines = subst (λ (r : RunAnswer). r .search .lines ≤ roomLines) (sym (runSearch-answers bench b k s formed allowance)) (comes .kept .roomForLines)
 
 -- ---- refusals
 

@@ -85,7 +85,6 @@ atoms-texts s = flatten-keep s (below mostAtoms)
 -- ---- lines
 
 -- the lines of a search
-pub lines-texts : (s : Stored)
-    → flatten (map lineText (searchOf s .lines)) ≡ linesText (s .«line_weight») (s .«line_low») (s .«line_high») (s .lines)
-unfolding searchOf lineAt textsBelow
+pub lines-texts : (s : Stored) → flatten (map lineText (searchOf s .lines)) ≡ linesText (s .line) (s .lines)
+unfolding searchOf textsBelow
 lines-texts s = ap flatten (map-map lineText (lineAt s) (below (s .lines)))

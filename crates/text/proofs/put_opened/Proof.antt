@@ -3,7 +3,7 @@ use borrow.Author.Needs.{needs}
 use native.Mathlib.Omega.{arith}
 use denote.Ref.{now}
 use Rattle.text.proofs.Laws.Putting.{put-same}
-use Rattle.text.proofs.Laws.Answered.{opened-accepted, opened-length, opened-lines, opened-refused}
+use Rattle.text.proofs.Laws.Answered.{opened-accepted, opened-length, opened-refused}
 use Rattle.text.proofs.put_opened.Statement.{statement}
 use Rattle.text.proofs.put_opened.Tie as tie
 
@@ -16,10 +16,7 @@ put-run-requires c κs =
     let o = c .before .before .before .before .«open» in
     let e = c .before .enum-told .given .1 in (
       s .pre .0,
-      (
-        opened-lines (s .args .t) (s .pre .0) (now (s .args .question)) (o .result) (o .ensures) (s .args .allowance) e (omega arith),
-        record { enough = omega (arith, opened-length (s .args .t) (s .pre .0) (now (s .args .question)) (o .result) (o .ensures) (s .args .allowance) e (omega arith)) },
-      ),
+      record { enough = omega (arith, opened-length (s .args .t) (s .pre .0) (now (s .args .question)) (o .result) (o .ensures) (s .args .allowance) e (omega arith)) },
     )
 
 returns : tie.Need-returns

@@ -1,7 +1,6 @@
 -- `put_run` meets its contract: W, the lines, the last line. Assumes nothing.
 use borrow.Author.Needs.{needs}
-use native.Mathlib.Omega.{arith}
-use Prim.Native.Nat.{ℕ, _+_, _≤_, min}
+use Prim.Native.Nat.{ℕ, _+_, min}
 use mathlib.Core.Path.{_≡_, sym, ap, _∙_}
 use mathlib.Core.List.{List, [], _++_}
 use denote.Ref.{now}
@@ -10,7 +9,7 @@ use Rattle.board.specs.Table.{boardOf, boardIn}
 use Rattle.board.specs.Sizes.{mostAtoms, mostW}
 use Rattle.board.proofs.Promise.{table-weight}
 use Rattle.search.specs.Search.{bench}
-use Rattle.search.specs.EntryPoints.{RunAnswer, runSearch, runMeans}
+use Rattle.search.specs.EntryPoints.{runSearch, runMeans}
 use Rattle.search.specs.declared.Run.{Run}
 use Rattle.search.specs.Listing.{bytesOf, decimal, lastText, ranText}
 use Rattle.text.specs.Private.Putting.{HasRoom, linesText}
@@ -24,7 +23,7 @@ abbrev total : ℕ → List ℕ
 total whole = bytesOf "total " ++ decimal whole ++ bytesOf "\n"
 
 abbrev lines : Run → List ℕ
-lines r = linesText (r .search .«line_weight») (r .search .«line_low») (r .search .«line_high») (r .search .lines)
+lines r = linesText (r .search .line) (r .search .lines)
 
 abbrev last : Run → List ℕ
 last r = lastText (runMeans r)
@@ -34,11 +33,6 @@ abbrev printed : tie.Start → List ℕ
 printed s = ranText (boardOf (s .args .t2)) (runSearch bench (s .args .t2) (s .args .from) (s .args .allowance))
 
 module _ (s : tie.Start) (r : Run) (e : runMeans r ≡ runSearch bench (s .args .t2) (s .args .from) (s .args .allowance)) where
-  -- as many lines as there is room for
-  few : r .search .lines ≤ 256
-  unfolding runMeans
-  few = omega (arith, ap (λ (a : RunAnswer). a .search .lines) e, s .pre .1 .0)
-
   module _ (w : ℕ) (q : w ≡ W (boardOf (s .args .t2))) where
     all : total w ++ lines r ++ last r ≡ printed s
     unfolding ranText runMeans
@@ -48,7 +42,7 @@ module _ (s : tie.Start) (r : Run) (e : runMeans r ≡ runSearch bench (s .args 
         ∙ ap (ranText (boardOf (s .args .t2))) e
 
     room3 : HasRoom (now (s .args .text)) 0 (total w ++ lines r ++ last r)
-    room3 = room-same (sym all) (s .pre .1 .1)
+    room3 = room-same (sym all) (s .pre .1)
 
     room2 : HasRoom (now (s .args .text)) 0 (total w ++ lines r)
     room2 = room-first (total w ++ lines r) (last r) room3
@@ -71,35 +65,33 @@ put-ended-requires c κs =
 put-lines-requires : tie.Need-put-lines-requires
 unfolding bytesOf
 put-lines-requires c κs =
-    let s = c .before .before .before .before .before .before .before .before .before .before .before .before .before .before .before .before in
-    let r = c .before .before .before .before .before .before .before .before .before .before .before .before .before .before .run in
-    let w = c .before .before .before .before .before .before .before .before .before .before .whole-weight in
-    let q = weight s (w .result) (w .ensures) in (
-      few s (r .result) (r .ensures),
-      room-second (total (w .result)) (lines (r .result)) (c .before .before .before .before .before .before .before .put-ended .ensures) (room2 s (r .result) (r .ensures) (w .result) q),
-    )
+    let s = c .before .before .before .before .before .before .before .before .before .before .before .before .before .before .before in
+    let r = c .before .before .before .before .before .before .before .before .before .before .before .before .before .run in
+    let w = c .before .before .before .before .before .before .before .before .before .whole-weight in
+    let q = weight s (w .result) (w .ensures) in
+    room-second (total (w .result)) (lines (r .result)) (c .before .before .before .before .before .before .put-ended .ensures) (room2 s (r .result) (r .ensures) (w .result) q)
 
 put-last-requires : tie.Need-put-last-requires
 unfolding bytesOf lastText runMeans
 put-last-requires c κs =
-    let s = c .before .before .before .before .before .before .before .before .before .before .before .before .before .before .before .before .before .before .before .before in
-    let r = c .before .before .before .before .before .before .before .before .before .before .before .before .before .before .before .before .before .before .run in
-    let w = c .before .before .before .before .before .before .before .before .before .before .before .before .before .before .whole-weight in
+    let s = c .before .before .before .before .before .before .before .before .before .before .before .before .before .before .before .before .before .before .before in
+    let r = c .before .before .before .before .before .before .before .before .before .before .before .before .before .before .before .before .before .run in
+    let w = c .before .before .before .before .before .before .before .before .before .before .before .before .before .whole-weight in
     let q = weight s (w .result) (w .ensures) in
     room-second (total (w .result) ++ lines (r .result)) (last (r .result))
-    (put-both (total (w .result)) (lines (r .result)) (c .before .before .before .before .before .before .before .before .before .before .before .put-ended .ensures) (room2 s (r .result) (r .ensures) (w .result) q) (c .before .before .before .put-lines .ensures))
+    (put-both (total (w .result)) (lines (r .result)) (c .before .before .before .before .before .before .before .before .before .before .put-ended .ensures) (room2 s (r .result) (r .ensures) (w .result) q) (c .before .before .before .put-lines .ensures))
     (room3 s (r .result) (r .ensures) (w .result) q)
 
 returns : tie.Need-returns
 unfolding bytesOf lastText runMeans
 returns c =
-    let s = c .before .before .before .before .before .before .before .before .before .before .before .before .before .before .before .before .before .before .before .before .before .before .before in
-    let r = c .before .before .before .before .before .before .before .before .before .before .before .before .before .before .before .before .before .before .before .before .before .run in
-    let w = c .before .before .before .before .before .before .before .before .before .before .before .before .before .before .before .before .before .whole-weight in
+    let s = c .before .before .before .before .before .before .before .before .before .before .before .before .before .before .before .before .before .before .before .before .before .before in
+    let r = c .before .before .before .before .before .before .before .before .before .before .before .before .before .before .before .before .before .before .before .before .run in
+    let w = c .before .before .before .before .before .before .before .before .before .before .before .before .before .before .before .before .whole-weight in
     let q = weight s (w .result) (w .ensures) in
     put-same (sym (all s (r .result) (r .ensures) (w .result) q))
     (put-both (total (w .result) ++ lines (r .result)) (last (r .result))
-    (put-both (total (w .result)) (lines (r .result)) (c .before .before .before .before .before .before .before .before .before .before .before .before .before .before .put-ended .ensures) (room2 s (r .result) (r .ensures) (w .result) q) (c .before .before .before .before .before .before .put-lines .ensures))
+    (put-both (total (w .result)) (lines (r .result)) (c .before .before .before .before .before .before .before .before .before .before .before .before .before .put-ended .ensures) (room2 s (r .result) (r .ensures) (w .result) q) (c .before .before .before .before .before .before .put-lines .ensures))
     (room3 s (r .result) (r .ensures) (w .result) q) (c .before .before .put-last .ensures))
 
 pub put-run-spec : {M : Type 1} → statement M

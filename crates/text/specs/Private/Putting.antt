@@ -7,7 +7,7 @@ use lib.ListN.{length, take, drop}
 use Rattle.sets.specs.Sets.{member}
 use Rattle.sets.specs.Lists.{below}
 use Rattle.search.specs.Listing.{lineText, decimal, bytesOf}
-use Rattle.search.specs.Store.{lineIn}
+use Rattle.search.specs.Layout.{lineIn}
 
 -- the bytes with a piece over those from place `at` on
 unfoldable pub withPiece : List ℕ → ℕ → List ℕ → List ℕ
@@ -30,6 +30,6 @@ textsBelow text n = flatten (map text (below n))
 abbrev pub atomText : ℕ → ℕ → List ℕ
 atomText s a = cond (member a s) (bytesOf " " ++ decimal a) []
 
--- the text of the first n lines of the arrays
-abbrev pub linesText : List ℕ → List ℕ → List ℕ → ℕ → List ℕ
-linesText weights lows highs n = textsBelow (λ i. lineText (lineIn weights lows highs i)) n
+-- the text of the first n lines of the array
+abbrev pub linesText : List ℕ → ℕ → List ℕ
+linesText line n = textsBelow (λ i. lineText (lineIn line i)) n

@@ -5,10 +5,10 @@ use Rattle.replay.proofs.state.print_set.Statement.{statement}
 use Rattle.replay.proofs.state.print_set.Tie as tie
 
 abbrev Inv-loop : tie.InvT-loop
-Inv-loop low high set atom₀ atom = atom ≤ 128
+Inv-loop set atom₀ atom = atom ≤ 128
 
 abbrev μ-loop : tie.MeasureT-loop
-μ-loop low high set atom₀ atom = 128 - atom
+μ-loop set atom₀ atom = 128 - atom
 
 pub print-set-spec : {M : Type 1} → statement M
 print-set-spec =

@@ -5,7 +5,8 @@ use mathlib.Core.Path.{_≡_, refl, _∙_, subst}
 use mathlib.Core.List.{List}
 use lib.ListN.{length}
 use denote.Ref.{now}
-use Rattle.sets.specs.Sets.{words, mostAtoms}
+use Rattle.sets.specs.Sets.{mostAtoms}
+use Rattle.sets.specs.Masks.{maskMeans}
 use Rattle.text.specs.Private.Putting.{HasRoom, PutAs, textsBelow, atomText}
 use Rattle.text.proofs.Laws.Putting.{put-length, put-same, room-same}
 use Rattle.text.proofs.Laws.Texts.{texts-none, texts-next, texts-put, atoms-texts}
@@ -13,19 +14,19 @@ use Rattle.text.proofs.lines.put_atoms.Statement.{statement}
 use Rattle.text.proofs.lines.put_atoms.Tie as tie
 
 abbrev Inv-loop : tie.InvT-loop
-Inv-loop text₀ at low high end₀ a₀ text end a =
-    PutAs text₀ at (textsBelow (atomText (words low high)) a) text end × (a ≤ 128) × (length text ≡ length text₀)
+Inv-loop text₀ at set end₀ a₀ text end a =
+    PutAs text₀ at (textsBelow (atomText (maskMeans set)) a) text end × (a ≤ 128) × (length text ≡ length text₀)
 
 abbrev μ-loop : tie.MeasureT-loop
-μ-loop text₀ at low high end₀ a₀ text end a = 128 - a
+μ-loop text₀ at set end₀ a₀ text end a = 128 - a
 
 -- the text of an atom
 abbrev of : tie.Start Inv-loop μ-loop → ℕ → List ℕ
-of s = atomText (words (s .args .low) (s .args .high))
+of s = atomText (maskMeans (s .args .set))
 
 -- there is room for all of them
 room : (s : tie.Start Inv-loop μ-loop) → HasRoom (now (s .args .text)) (s .args .at) (textsBelow (of s) mostAtoms)
-room s = room-same (atoms-texts (words (s .args .low) (s .args .high))) (s .pre)
+room s = room-same (atoms-texts (maskMeans (s .args .set))) (s .pre)
 
 loop-holds : tie.Need-loop-holds Inv-loop μ-loop
 loop-holds c = (texts-none (of (c .before)), omega arith, refl)
@@ -54,7 +55,7 @@ returns c =
     let s = c .before .before .before in
     let l = c .before .loop in
     let all : l .a ≡ mostAtoms = omega arith in
-    put-same (atoms-texts (words (s .args .low) (s .args .high)))
+    put-same (atoms-texts (maskMeans (s .args .set)))
     (subst (λ (n : ℕ). PutAs (now (s .args .text)) (s .args .at) (textsBelow (of s) n) (l .text) (l .end)) all (l .inv .0))
 
 pub put-atoms-spec : {M : Type 1} → statement M

@@ -2,7 +2,8 @@
 use borrow.Author.Needs.{needs}
 use Prim.Native.Nat.{ℕ}
 use mathlib.Core.List.{List, _++_}
-use Rattle.sets.specs.Sets.{members, words}
+use Rattle.sets.specs.Sets.{members}
+use Rattle.sets.specs.Masks.{maskMeans}
 use Rattle.search.specs.Listing.{decimal, bytesOf, atomsText, lineText}
 use Rattle.text.proofs.Laws.Putting.{room-first, room-second, put-both}
 use Rattle.text.proofs.lines.put_line.Statement.{statement}
@@ -13,7 +14,7 @@ abbrev weight : tie.Start → List ℕ
 weight s = decimal (s .args .weight)
 
 abbrev atoms : tie.Start → List ℕ
-atoms s = atomsText (members (words (s .args .low) (s .args .high)))
+atoms s = atomsText (members (maskMeans (s .args .set)))
 
 put-decimal-requires : tie.Need-put-decimal-requires
 unfolding lineText

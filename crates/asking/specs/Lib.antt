@@ -1,1 +1,0 @@
--- What `asking` means is said in `search`: its files EntryPoints, Search and Store.

@@ -1,0 +1,1 @@
+-- What `shares` means is said in `search`: its files EntryPoints, Search and Store.

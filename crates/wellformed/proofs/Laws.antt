@@ -1,0 +1,9 @@
+pub mod Admitted
+pub mod Apart
+pub mod Conflicts
+pub mod First
+pub mod Hypotheses
+pub mod Indices
+pub mod Lent
+pub mod Ordered
+pub mod Weights
