@@ -8,16 +8,16 @@ void to_library(const search *s, vilthomm_search *out)
     out->lines = s->lines;
     for (size_t i = 0; i < s->entries; i++) {
         const entry *e = &s->entry[i];
-        out->weight[i] = e->weight;
-        out->chosen_low[i] = e->chosen.low;
-        out->chosen_high[i] = e->chosen.high;
-        out->pending_low[i] = e->pending.low;
-        out->pending_high[i] = e->pending.high;
+        out->entry[i][VILTHOMM_ENTRY_WEIGHT] = e->weight;
+        out->entry[i][VILTHOMM_ENTRY_CHOSEN_LOW] = e->chosen.low;
+        out->entry[i][VILTHOMM_ENTRY_CHOSEN_HIGH] = e->chosen.high;
+        out->entry[i][VILTHOMM_ENTRY_PENDING_LOW] = e->pending.low;
+        out->entry[i][VILTHOMM_ENTRY_PENDING_HIGH] = e->pending.high;
     }
     for (size_t i = 0; i < s->lines; i++) {
-        out->line_weight[i] = s->line_weight[i];
-        out->line_low[i] = s->line[i].low;
-        out->line_high[i] = s->line[i].high;
+        out->line[VILTHOMM_LINE_WEIGHT][i] = s->line_weight[i];
+        out->line[VILTHOMM_LINE_LOW][i] = s->line[i].low;
+        out->line[VILTHOMM_LINE_HIGH][i] = s->line[i].high;
     }
 }
 

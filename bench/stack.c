@@ -6,7 +6,7 @@
 #include <stdlib.h>
 #include <string.h>
 
-enum { ROOM = 4 << 20, FILL = 0xa5, GOAL = 256 << 10 };
+enum { ROOM = 4 << 20, FILL = 0xa5, GOAL = 190 << 10 };
 
 static void *nothing(void *unused)
 {

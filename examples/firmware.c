@@ -1,9 +1,11 @@
-/* The 001 board, asked for atom 7: prints what the listing program prints. From the top of the repository, after `rt staticlib firmware`:
-     cc -std=c99 -Wall -Wextra examples/firmware.c target/staticlib/libfirmware.a -o target/example && target/example
+/* The 001 board, asked for atom 7: prints what the listing program prints. From the top of the repository, after `make`:
+     cc -std=c99 -Wall -Wextra -Iinclude examples/firmware.c target/libvilthomm.a -o target/example && target/example
+   or after `make install`:
+     cc -std=c99 -Wall -Wextra examples/firmware.c $(pkg-config --cflags --libs vilthomm) -o target/example && target/example
    The structs are static, so that the stack has to hold only what the calls need (docs/FIRMWARE.md, "Stack and memory"). */
-#include "../include/vilthomm.h"
 #include <inttypes.h>
 #include <stdio.h>
+#include <vilthomm.h>
 
 static const uint8_t asked[] = {7};
 static uint8_t file[VILTHOMM_FILE_BYTES];
@@ -30,9 +32,10 @@ int main(void)
     ran = vilthomm_run(loading.table, opening.search, 100);
     printf("total %" PRIu64 "\n", vilthomm_total(loading.table).total);
     for (size_t i = 0; i < ran.search.lines; i++) {
-        printf("%" PRIu64, ran.search.line_weight[i]);
+        uint64_t low = ran.search.line[VILTHOMM_LINE_LOW][i], high = ran.search.line[VILTHOMM_LINE_HIGH][i];
+        printf("%" PRIu64, ran.search.line[VILTHOMM_LINE_WEIGHT][i]);
         for (int atom = 0; atom < VILTHOMM_MOST_ATOMS; atom++)
-            if ((atom < 64 ? ran.search.line_low[i] >> atom : ran.search.line_high[i] >> (atom - 64)) & 1)
+            if ((atom < 64 ? low >> atom : high >> (atom - 64)) & 1)
                 printf(" %d", atom);
         printf("\n");
     }

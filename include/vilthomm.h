@@ -38,38 +38,66 @@
                             basic steps, at most some                   KiB of stack
      vilthomm_load          130,000, however long the file                14.4   (17.4)
      vilthomm_open          90,000                                        39.3   (68.3)
-     vilthomm_run           2,300,000, and 1,500,000 for each step       200.4  (255.5)
-     vilthomm_share         2,300,000                                     54.5   (83.4)
+     vilthomm_run           2,300,000, and 1,500,000 for each step       <RUN_OWN>  (<RUN_STACK>)
+     vilthomm_share         2,300,000                                    <SHARE_OWN>  (<SHARE_STACK>)
      vilthomm_yes_or_no     330,000                                       15.2   (18.2)
      vilthomm_total         90,000                                        10.2   (13.2)
-     vilthomm_listing       load's, open's and run's, 700,000 more       234.6  (234.6)
+     vilthomm_listing       load's, open's and run's, 700,000 more       <LISTING_STACK>  (<LISTING_STACK>)
 
    The bound of a step is that of an atom with 256 rules. `bench/run` measures, in processor time on a current x86-64, along whole stretches at 480 to 512
    entries on five boards (bench/README.md has its figures):
    - A step takes 30 to 100 nanoseconds on average. A run tests its table and its search each time: beside its steps it takes up to 90 to 145 microseconds,
      by the board, as long as 1,400 to 3,800 steps there, and less over a small search. So a run of 1,000 steps takes up to 120 to 240 microseconds, most of
      it tests. Few long runs are cheaper than many short ones.
-   - A share makes the same tests, at each call: up to 85 to 140 microseconds. Of a whole list, line_weight[i] * 1000 / low of a run's answer is the same.
+   - A share makes the same tests, at each call: up to 85 to 140 microseconds. Of a whole list, line[VILTHOMM_LINE_WEIGHT][i] * 1000 / low of a run's answer
+     is the same.
    - In long runs the library takes 2.7 to 5.2 times the steps a second of plain C with its entries sorted in one array, 0.9 to 1.7 times those of the same
      C with an array that has their order, and 0.25 to 0.9 times those of the fastest C that was found. That C tests nothing.
    - On the dearest board that was found (217 rules of one atom, pending again and again beside 500 entries), runs of 1,000 steps take up to 13 microseconds
      a step, so 13 milliseconds. That no board is dearer is not claimed.
 
-   The functions are in target/staticlib/libfirmware.a, made by `rt staticlib firmware`, for x86-64 Linux. Of the C library it calls memcpy and memset.
-   docs/FIRMWARE.md says how this takes the place of a C module, docs/FORMAT.md has the board file byte by byte and what to do about each refusal. "Document 01" is
-   the product's scope; its numbers and words stand below. */
+   The functions are in libvilthomm.a, made by `make` in target/, for x86-64 Linux. Of the C library it calls memcpy and memset. docs/FIRMWARE.md says how this
+   takes the place of a C module, docs/FORMAT.md has the board file byte by byte and what to do about each refusal. "Document 01" is the product's scope; its
+   numbers and words stand below. */
 #ifndef VILTHOMM_H
 #define VILTHOMM_H
 
+/* Before anything is included: what is included may not be there for another processor. */
+#if !defined __x86_64__ || defined _WIN32
+#error "vilthomm.h: libvilthomm.a is for x86-64 with the calling convention of Linux, and this compiler makes code for another processor or convention"
+#endif
+#if __BYTE_ORDER__ != __ORDER_LITTLE_ENDIAN__
+#error "vilthomm.h: the words of libvilthomm.a are little-endian, and those of this compiler are not"
+#endif
+
 #include <stddef.h>
 #include <stdint.h>
+
+/* Twice: a C++98 without a C library has no SIZE_MAX. */
+#if (defined SIZE_MAX && SIZE_MAX != UINT64_MAX) || (defined __SIZEOF_SIZE_T__ && __SIZEOF_SIZE_T__ != 8)
+#error "vilthomm.h: libvilthomm.a has a size_t of 64 bits, and that of this compiler has another size (as with -mx32)"
+#endif
 
 #ifdef __cplusplus
 extern "C" {
 #endif
 
 /* Which library and command this is; CHANGELOG.md says what each version is. */
-#define VILTHOMM_VERSION "0.1"
+#define VILTHOMM_VERSION "0.2"
+
+/* Which layout the structs have; it goes up whenever one of them changes. The names that the linker sees carry it: vilthomm_run is vilthomm_run_layout_2 there.
+   So a header and an archive whose structs differ do not link, and "undefined reference to vilthomm_run_layout_.." says that they are not of one version. */
+#define VILTHOMM_LAYOUT 2
+
+#define VILTHOMM_JOINED(name, layout) name##_layout_##layout
+#define VILTHOMM_LINKED(name, layout) VILTHOMM_JOINED(name, layout)
+#define vilthomm_load VILTHOMM_LINKED(vilthomm_load, VILTHOMM_LAYOUT)
+#define vilthomm_open VILTHOMM_LINKED(vilthomm_open, VILTHOMM_LAYOUT)
+#define vilthomm_run VILTHOMM_LINKED(vilthomm_run, VILTHOMM_LAYOUT)
+#define vilthomm_share VILTHOMM_LINKED(vilthomm_share, VILTHOMM_LAYOUT)
+#define vilthomm_yes_or_no VILTHOMM_LINKED(vilthomm_yes_or_no, VILTHOMM_LAYOUT)
+#define vilthomm_total VILTHOMM_LINKED(vilthomm_total, VILTHOMM_LAYOUT)
+#define vilthomm_listing VILTHOMM_LINKED(vilthomm_listing, VILTHOMM_LAYOUT)
 
 /* ---- sizes */
 
@@ -139,6 +167,25 @@ typedef struct vilthomm_table {
     uint8_t body[VILTHOMM_MOST_RULES * VILTHOMM_MOST_BODY];
 } vilthomm_table;
 
+/* The words of an entry: entry[i][VILTHOMM_ENTRY_WEIGHT] is the weight of the entry at index i. */
+enum {
+    VILTHOMM_ENTRY_WEIGHT = 0,
+    VILTHOMM_ENTRY_CHOSEN_LOW = 1, /* the hypotheses that it has chosen */
+    VILTHOMM_ENTRY_CHOSEN_HIGH = 2,
+    VILTHOMM_ENTRY_PENDING_LOW = 3, /* the atoms that it has still to explain */
+    VILTHOMM_ENTRY_PENDING_HIGH = 4,
+    VILTHOMM_ENTRY_WORDS = 5
+};
+
+/* The columns of the lines, here before the index: line[VILTHOMM_LINE_WEIGHT][i] is the weight of the line at index i, and the weights of all lines stand
+   side by side. */
+enum {
+    VILTHOMM_LINE_WEIGHT = 0,
+    VILTHOMM_LINE_LOW = 1, /* its hypotheses */
+    VILTHOMM_LINE_HIGH = 2,
+    VILTHOMM_LINE_WORDS = 3
+};
+
 /* A search: its entries (partial proofs) and the lines it has listed. A set of atoms is two words: atom a is bit a of the low word, or bit a - 64
    of the high one. Room past a count is zero.
 
@@ -148,11 +195,8 @@ typedef struct vilthomm_table {
 typedef struct vilthomm_search {
     size_t entries;
     size_t lines;
-    uint64_t weight[VILTHOMM_MOST_ENTRIES];                                           /* of each entry: its weight */
-    uint64_t chosen_low[VILTHOMM_MOST_ENTRIES], chosen_high[VILTHOMM_MOST_ENTRIES];   /* the hypotheses that it has chosen */
-    uint64_t pending_low[VILTHOMM_MOST_ENTRIES], pending_high[VILTHOMM_MOST_ENTRIES]; /* the atoms that it has still to explain */
-    uint64_t line_weight[VILTHOMM_MOST_LINES];                                        /* of each line: its weight */
-    uint64_t line_low[VILTHOMM_MOST_LINES], line_high[VILTHOMM_MOST_LINES];           /* its hypotheses */
+    uint64_t entry[VILTHOMM_MOST_ENTRIES][VILTHOMM_ENTRY_WORDS];
+    uint64_t line[VILTHOMM_LINE_WORDS][VILTHOMM_MOST_LINES];
 } vilthomm_search;
 
 /* What vilthomm_load answers. Accepted: number and place 0. Refused: the number, the place in the file, and the table whose every field is 0. */
@@ -239,11 +283,17 @@ size_t vilthomm_listing(const uint8_t *file, size_t file_length, const uint8_t *
 
 /* ---- the layout that the library has, held to at compile time */
 
-#define VILTHOMM_ASSERT(name, condition) typedef char vilthomm_assert_##name[(condition) ? 1 : -1]
-#define VILTHOMM_SIZE(type, bytes) VILTHOMM_ASSERT(type##_size, sizeof(vilthomm_##type) == (bytes))
+#define VILTHOMM_OTHERWISE "vilthomm.h: this compiler lays a struct out in another way than libvilthomm.a"
+#if defined __cplusplus && __cplusplus >= 201103L
+#define VILTHOMM_ASSERT(name, condition) static_assert(condition, VILTHOMM_OTHERWISE)
+#elif !defined __cplusplus && defined __STDC_VERSION__ && __STDC_VERSION__ >= 201112L
+#define VILTHOMM_ASSERT(name, condition) _Static_assert(condition, VILTHOMM_OTHERWISE)
+#else
+#define VILTHOMM_ASSERT(name, condition) typedef char vilthomm_layout_of_##name[(condition) ? 1 : -1]
+#endif
+#define VILTHOMM_SIZE(type, bytes) VILTHOMM_ASSERT(type, sizeof(vilthomm_##type) == (bytes))
 #define VILTHOMM_FIELD(type, field, at) VILTHOMM_ASSERT(type##_##field, offsetof(vilthomm_##type, field) == (at))
-
-VILTHOMM_ASSERT(size_t, sizeof(size_t) == 8);
+#define VILTHOMM_ROW(type, field, bytes) VILTHOMM_ASSERT(type##_##field##_row, sizeof((vilthomm_##type *)0)->field[0] == (bytes))
 
 VILTHOMM_SIZE(table, 3096);
 VILTHOMM_FIELD(table, atoms, 0);
@@ -258,14 +308,10 @@ VILTHOMM_FIELD(table, body, 1048);
 VILTHOMM_SIZE(search, 26640);
 VILTHOMM_FIELD(search, entries, 0);
 VILTHOMM_FIELD(search, lines, 8);
-VILTHOMM_FIELD(search, weight, 16);
-VILTHOMM_FIELD(search, chosen_low, 4112);
-VILTHOMM_FIELD(search, chosen_high, 8208);
-VILTHOMM_FIELD(search, pending_low, 12304);
-VILTHOMM_FIELD(search, pending_high, 16400);
-VILTHOMM_FIELD(search, line_weight, 20496);
-VILTHOMM_FIELD(search, line_low, 22544);
-VILTHOMM_FIELD(search, line_high, 24592);
+VILTHOMM_FIELD(search, entry, 16);
+VILTHOMM_ROW(search, entry, 40);
+VILTHOMM_FIELD(search, line, 20496);
+VILTHOMM_ROW(search, line, 2048);
 
 VILTHOMM_SIZE(loading, 3112);
 VILTHOMM_FIELD(loading, number, 0);
@@ -295,9 +341,11 @@ VILTHOMM_SIZE(total_answer, 16);
 VILTHOMM_FIELD(total_answer, number, 0);
 VILTHOMM_FIELD(total_answer, total, 8);
 
+#undef VILTHOMM_ROW
 #undef VILTHOMM_FIELD
 #undef VILTHOMM_SIZE
 #undef VILTHOMM_ASSERT
+#undef VILTHOMM_OTHERWISE
 
 #ifdef __cplusplus
 }

@@ -1,7 +1,8 @@
 #!/usr/bin/env python3
 """Runs all checks: of the enumerator against document 01 and against itself,
 of the files stored for the program replay, of the examples, their pages and
-the command, and of the program listing and the C names against the enumerator.
+the command, of the C header and its archive, and of the program listing and
+the C names against the enumerator.
 
     python3 check.py                all sections
     python3 check.py --only WORD    those whose titles have this in them
@@ -20,7 +21,8 @@ sys.dont_write_bytecode = True
 from checks.tally import SECTIONS, Tally  # noqa: E402
 from checks import asked, carried, cases, command, demand3  # noqa: E402,F401
 from checks import examples, listings, loads, program  # noqa: E402,F401
-from checks import firmware, picture, searches, stored  # noqa: E402,F401
+from checks import header, archive, firmware  # noqa: E402,F401
+from checks import picture, searches, stored  # noqa: E402,F401
 from checks import format_page, making  # noqa: E402,F401
 
 

@@ -80,8 +80,9 @@ def command_sources(tally):
                {"holding", "files", "board", "sets"})
     tally.same("a program, with crates of the toolchain",
                building.crates_of("listing"), {
-                   "listing", "text", "bounds", "running", "asking", "formed",
-                   "search", "files", "board", "sets", "io", "libc", "os"})
+                   "listing", "text", "bounds", "running", "opening",
+                   "wellformed", "prepared", "search", "files", "board",
+                   "sets", "io", "libc", "os"})
     sources = list(building.sources())
     for path, wanted in (
             (("sets", "src", "lib.rt"), True),

@@ -1,15 +1,7 @@
-"""The functions under C names: include/vilthomm.h by itself, and
-tests/firmware.c and examples/firmware.c, linked to the archive of the crate
-firmware, against the enumerator's answers.
-
-What is built stands in target/firmware.  CC and CXX name the compilers.
-"""
+"""The functions under C names: tests/firmware.c and examples/firmware.c,
+linked to the archive, against the enumerator's answers."""
 
 import os
-import re
-import shlex
-import shutil
-import subprocess
 from itertools import zip_longest
 from typing import NamedTuple
 
@@ -17,69 +9,22 @@ import boards
 import enumerator as en
 from boards import file_of
 from checks.cases import LISTED_001
-from checks.tally import TESTS, section, typed
+from checks.compiled import (
+    ARCHIVE, BUILT, EXAMPLE, FLAGS, TOP, archive_made, compiler, ran, succeeds)
+from checks.tally import section, typed
 from containers import boards_bin, runs_bin
 from containers.acts import Open, Run
 from replay import FILES
 
-TOP = os.path.dirname(TESTS)
-BUILT = os.path.join("target", "firmware")
-ARCHIVE = os.path.join("target", "staticlib", "libfirmware.a")
-HEADER = os.path.join("include", "vilthomm.h")
 SOURCES = [os.path.join("tests", name) for name in (
     "firmware.c", "firmware/calls.c", "firmware/container.c",
     "firmware/searches.c")]
-FLAGS = ["-Wall", "-Wextra", "-Werror", "-pedantic"]
 TEXT = 37203                # bytes that every listing fits into
 FILE = 3334                 # bytes of a file that decide
 
 # The sizes of the header, as document 01 has them, and those two.
 SIZES = (b"atoms 128\ndeclarations 32\nrules 256\nbody 8\nasked 8\n"
          b"entries 512\nlines 256\nfile 3334\ntext 37203\n")
-
-# "What the scope says no to"
-REFUSALS = {
-    1: "cut off", 2: "kind", 3: "misplaced", 4: "atom", 5: "declaration",
-    6: "hypothesis", 7: "weight", 8: "product", 9: "body", 10: "head",
-    11: "level", 12: "rules", 20: "table", 21: "length", 22: "asked atom",
-    23: "asked order", 25: "board state", 31: "store full", 32: "overlap",
-    33: "list full", 34: "search", 36: "line"}
-
-
-def ran(*words):
-    """A command at the top of the repository: its status and its output."""
-    done = subprocess.run(words, cwd=TOP, capture_output=True, timeout=3600)
-    return done.returncode, done.stdout, done.stderr.decode(errors="replace")
-
-
-def compiler(variable, default):
-    """The words of a compiler's command, or None."""
-    words = shlex.split(os.environ.get(variable, default))
-    return words if words and shutil.which(words[0]) else None
-
-
-def succeeds(tally, what, *words):
-    status, _, said = ran(*words)
-    tally.true("%s: %s" % (what, said[-2000:]), status == 0)
-    return status == 0
-
-
-def hold_numbers(tally):
-    """The header has every refusal, by its number and its word."""
-    text = en.file_bytes(os.path.join(TOP, HEADER)).decode("ascii")
-    numbers = {int(number): (name.replace("_", " ").lower(), word)
-               for name, number, word in re.findall(
-                   r"VILTHOMM_REFUSED_(\w+) = (\d+),? +/\* ([a-z ]+):", text)}
-    tally.same("refusals of the header", numbers,
-               {number: (word, word) for number, word in REFUSALS.items()})
-
-
-def hold_header(tally, command, language, *standards):
-    """The header by itself is valid in these standards of a language."""
-    for standard in standards:
-        succeeds(tally, "the header as " + standard, *command,
-                 "-std=" + standard, *FLAGS, "-fsyntax-only", "-x", language,
-                 HEADER)
 
 
 # Listings: items with a board file, an input and the room for the text.
@@ -217,30 +162,9 @@ def hold_sizes(tally):
     hold_lines(tally, "sizes", b"".join(wanted), "sizes", container)
 
 
-def hold_symbols(tally):
-    """The archive has the functions of the header and no other name, nothing
-    of the driver, and needs memcpy and memset alone."""
-    if shutil.which("nm") is None:
-        print("  nm is not installed: the archive's names are not tried")
-        return
-    text = en.file_bytes(os.path.join(TOP, HEADER)).decode("ascii")
-    status, said, _ = ran("nm", "-P", ARCHIVE)
-    found = re.findall(r"^(\S+) ([A-Za-z])\b", said.decode(), re.MULTILINE)
-    for what, kind, wanted in (
-            ("functions", "T", re.findall(r"^\w+ (vilthomm_\w+)\(", text,
-                                          re.MULTILINE)),
-            ("needs", "U", ["memcpy", "memset"])):
-        tally.same("the archive's " + what,
-                   sorted(name for name, one in found if one == kind),
-                   sorted(wanted))
-    tally.true("the archive has nothing of the driver",
-               status == 0 and b"drive" not in said)
-
-
 def hold_programs(tally, command):
     """tests/firmware.c and examples/firmware.c, linked to the archive."""
     built = [*command, "-std=c99", *FLAGS]
-    os.makedirs(os.path.join(TOP, BUILT), exist_ok=True)
     if succeeds(tally, "tests/firmware.c", *built, *SOURCES, ARCHIVE, "-o",
                 os.path.join(BUILT, "test")):
         hold_lines(tally, "replay", replayed(), "replay",
@@ -248,29 +172,15 @@ def hold_programs(tally, command):
         hold_listings(tally)
         hold_sizes(tally)
     example = os.path.join(BUILT, "example")
-    if succeeds(tally, "examples/firmware.c", *built, "examples/firmware.c",
-                ARCHIVE, "-o", example):
-        tally.same("examples/firmware.c", ran(example), (0, LISTED_001, ""))
+    if succeeds(tally, EXAMPLE, *built, "-Iinclude", EXAMPLE, ARCHIVE, "-o",
+                example):
+        tally.same(EXAMPLE, ran(example), (0, LISTED_001, ""))
 
 
 @section("the functions under C names")
 def functions(tally):
-    hold_numbers(tally)
-    command, other = compiler("CC", "cc"), compiler("CXX", "c++")
-    if command is None and other is None:
-        print("  no C and no C++ compiler: header and functions are not tried")
-        return
-    if other is None:
-        print("  no C++ compiler: the header is not tried in it")
-    else:
-        hold_header(tally, other, "c++", "c++98", "c++17")
+    command = compiler("CC", "cc")
     if command is None:
         print("  no C compiler: the functions are not tried")
-        return
-    hold_header(tally, command, "c", "c99", "c11")
-    if shutil.which("rt") is None:
-        print("  rt is not installed: no archive, the functions are not tried")
-    elif succeeds(tally, "rt staticlib firmware", "rt", "staticlib",
-                  "firmware"):
-        hold_symbols(tally)
+    elif archive_made(tally):
         hold_programs(tally, command)

@@ -13,7 +13,7 @@ from boards import file_of
 from checks import program
 from checks.cases import LISTED_001
 from checks.examples import question_in, shown_in
-from checks.firmware import REFUSALS
+from checks.header import REFUSALS
 from checks.program_cases import FILE_001
 from checks.project import built, listed, page_of, stored, words
 from checks.tally import run_for, section, typed

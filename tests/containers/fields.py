@@ -1,8 +1,9 @@
 """A search as it is handed in, in arrays: what it means, its sum, its lines.
 
-`crates/search` has the arrays in its struct `Search`: the entry that goes
-first stands at the highest used index, the lines in their order from index 0,
-a set of atoms is two words, and "all unused room zero".
+The containers number these fields.  `crates/search` has their words in its
+struct `Search`, the five of an entry together, and so has the C header: the
+entry that goes first stands at the highest used index, the lines in their
+order from index 0, a set of atoms is two words, and "all unused room zero".
 """
 
 from functools import lru_cache
