@@ -8,6 +8,7 @@ use sets::mask::member;
 ghost use Rattle.sets.specs.Sets.{members};
 ghost use Rattle.sets.specs.Masks.{maskMeans};
 ghost use Rattle.search.specs.Listing.{atomsText, lineText};
+ghost use Rattle.search.specs.Order.{lineWith};
 ghost use Rattle.text.specs.Private.Putting.{HasRoom, PutAs, atomText, linesText};
 
 // Puts an atom after a blank where it is in the set, else nothing.
@@ -37,8 +38,8 @@ fn put_atoms(text: &mut [u8], at: usize, set: Mask) -> usize
 
 // Puts a line.
 fn put_line(text: &mut [u8], at: usize, weight: u64, set: Mask) -> usize
-    requires { ⌜ HasRoom (now text) at (lineText (record { weight = weight; chosen = maskMeans set })) ⌝ }
-    ensures { λ r. ⌜ PutAs (now (text .entry)) at (lineText (record { weight = weight; chosen = maskMeans set })) (now (text .exit)) r ⌝ }
+    requires { ⌜ HasRoom (now text) at (lineText (lineWith weight (maskMeans set))) ⌝ }
+    ensures { λ r. ⌜ PutAs (now (text .entry)) at (lineText (lineWith weight (maskMeans set))) (now (text .exit)) r ⌝ }
 {
     let atoms = put_decimal(text, at, weight);
     let end = put_atoms(text, atoms, set);

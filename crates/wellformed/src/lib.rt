@@ -1,14 +1,16 @@
 // Which searches are well formed (document 01, "The search", and refusal 34), over words that are lent: whoever has a table prepared tests any number of
 // searches over it.
-use crate::tests::entries_end;
 use crate::tests::entries_fit;
 use crate::tests::entries_ordered;
 use crate::tests::lines_apart;
-use crate::tests::lines_end;
 use crate::tests::lines_first;
 use crate::tests::lines_fit;
 use crate::tests::lines_ordered;
 use search::Counts;
+use search::layout::entries_end;
+use search::layout::entry_room;
+use search::layout::line_room;
+use search::layout::lines_end;
 ghost use mathlib.Core.Path.{_≡_};
 ghost use Rattle.board.specs.Board.{Board};
 ghost use Rattle.prepared.specs.Prepared.{Known};
@@ -35,7 +37,7 @@ pub fn is_well_formed<'a>(
 {
     let n = counts.entries;
     let m = counts.lines;
-    if limits.entries < n || limits.lines < m || entry.len() / 5 < n || line.len() / 3 < m {
+    if limits.entries < n || limits.lines < m || entry_room(entry) < n || line_room(line) < m {
         return false;
     }
     entries_end(entry, n)

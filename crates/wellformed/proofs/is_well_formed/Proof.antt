@@ -6,12 +6,11 @@ use mathlib.Core.Path.{_≡_, sym, _∙_}
 use mathlib.Core.Bool.{Bool}
 use mathlib.Core.List.{List}
 use mathlib.Core.Logic.{inl, inr}
-use Prim.Native.Nat.{ℕ, _/_, _≤_}
-use lib.ListN.{length}
+use Prim.Native.Nat.{ℕ, _≤_}
 use denote.Ref.{now}
 use Rattle.sets.proofs.Laws.Tests.{T-of-true, false-of-T, and-then, and-else, and-left, and-right}
 use Rattle.board.specs.Board.{Board}
-use Rattle.search.specs.Layout.{entrySize, lineRoom}
+use Rattle.search.specs.Layout.{entryRoom, lineRoom}
 use Rattle.search.specs.declared.Counts.{Counts}
 use Rattle.prepared.specs.Prepared.{Known}
 use Rattle.wellformed.specs.Lent.{limitsOf}
@@ -31,18 +30,26 @@ returns c = λ b known atoms. sym (false-of-T _ (λ t.
     ]))
 
 -- the counts are within the limits and the room
-room : (c : tie.Else4) → let a = c .before .before .before .before .before .before .before .before .args in
+room : (c : tie.Else4) → let a = c .before .before .before .before .before .before .before .before .before .before .args in
     (a .counts .entries ≤ a .limits .entries) × (a .counts .lines ≤ a .limits .lines)
-    × (a .counts .entries ≤ length (now (a .entry)) / entrySize) × (a .counts .lines ≤ lineRoom (now (a .line)))
+    × (a .counts .entries ≤ entryRoom (now (a .entry))) × (a .counts .lines ≤ lineRoom (now (a .line)))
 unfolding lineRoom
-room c = (c .before .before .before .before .if1 .left, ltb-false _ _ (c .before .before .if2 .left), ltb-false _ _ (c .before .if3 .left), ltb-false _ _ (c .if4 .left))
+room c =
+    let l = c .before in
+    let e = l .before .before in
+    let n = e .before .before .before .before .before .before .before .args .counts in (
+      e .before .before .before .if1 .left,
+      ltb-false _ _ (e .before .if2 .left),
+      omega (arith, ltb-false (e .entry-room .result) (n .entries) (l .before .if3 .left), e .entry-room .ensures),
+      omega (arith, ltb-false (l .line-room .result) (n .lines) (c .if4 .left), l .line-room .ensures),
+    )
 
 -- ---- the tests, from the first on
 
 -- some of them, of the words and counts that are lent
 abbrev Passes : (Board → List ℕ → List ℕ → Counts → Bool) → tie.After-entries-end → Bool → Type 0
 Passes tests c found =
-    let a = c .before .before .before .before .before .before .before .before .before .args in
+    let a = c .before .before .before .before .before .before .before .before .before .before .before .args in
     (b : Board) → Known b (now (a .words)) (a .whole) → a .atoms ≡ b .atoms → found ≡ tests b (now (a .entry)) (now (a .line)) (a .counts)
 
 two : (c : tie.Joined5) → Passes tests.two (c .before) (c .if5 .if6)
@@ -110,8 +117,10 @@ pub is-well-formed-spec : {M : Type 1} → statement M
 is-well-formed-spec =
     tie.close
     (tie.spec
+    (λ c κs. search needs)
+    (λ c κs. search needs)
     returns
-    (λ c κs. let (few, short, n, m) = room c in omega arith)
+    (λ c κs. search needs)
     (λ c κs. search needs)
     (λ c κs. search needs)
     (λ c κs. search needs)

@@ -10,7 +10,7 @@ use Rattle.sets.specs.Masks.{maskMeans}
 use Rattle.search.specs.Entries.{entryMeans}
 use Rattle.search.specs.Layout.{lineIn}
 use Rattle.search.specs.Listing.{lineText}
-use Rattle.search.specs.Order.{Entry, Line, finished}
+use Rattle.search.specs.Order.{Entry, Line, lineWith, finished}
 use Rattle.search.specs.declared.order.Entry.{Entry as EntryCode}
 use Rattle.text.specs.Private.Putting.{PutAs, textsBelow, linesText}
 use Rattle.text.proofs.Laws.Putting.{put-length, put-same, room-same}
@@ -29,9 +29,9 @@ abbrev of : tie.Start Inv-loop μ-loop → ℕ → List ℕ
 of s i = lineText (lineIn (now (s .args .line)) i)
 
 -- .. as it was read
-read : (r : EntryCode) (l : Line) → entryMeans r ≡ finished l → lineText l ≡ lineText (record { weight = r .weight; chosen = maskMeans (r .chosen) })
+read : (r : EntryCode) (l : Line) → entryMeans r ≡ finished l → lineText l ≡ lineText (lineWith (r .weight) (maskMeans (r .chosen)))
 unfolding entryMeans finished
-read r l e = ap (λ (f : Entry). lineText (record { weight = f .weight; chosen = f .chosen })) (sym e)
+read r l e = ap (λ (f : Entry). lineText (lineWith (f .weight) (f .chosen))) (sym e)
 
 loop-holds : tie.Need-loop-holds Inv-loop μ-loop
 loop-holds c = (texts-none (of (c .before .before)), omega arith, refl)
