@@ -1,15 +1,14 @@
 -- What is printed of a question and of an input, from what loading and opening handed back; and that there is room for it. Assumes nothing.
-use Prim.Native.Nat.{ℕ, suc, _+_, _*_, _≤_, _<_}
+use Prim.Native.Nat.{ℕ, suc, _+_, _-_, _*_, _≤_, _<_}
 use native.Mathlib.Omega.{arith}
-use mathlib.Core.Path.{_≡_, refl, sym, ap, ap₂, _∙_, subst}
-use mathlib.Core.Bool.{Bool, cond}
+use mathlib.Core.Path.{_≡_, refl, sym, ap, ap₂, _∙_}
 use mathlib.Core.List.{List, [], _∷_}
 use mathlib.Core.Option.{some}
 use lib.Dec.{T}
 use lib.ListN.{length, getD, take, drop}
 use lib.Pow.{areBytes}
 use borrow.Author.Tests.{lt-ltb, le-ltb}
-use Rattle.board.specs.Answers.{Answer, granted, FileAnswer, accepted}
+use Rattle.board.specs.Answers.{granted, accepted}
 use Rattle.board.specs.Board.{Board}
 use Rattle.board.specs.Load.{load}
 use Rattle.board.specs.Table.{tableOf, boardOf, isTable}
@@ -20,12 +19,11 @@ use Rattle.board.specs.declared.Loaded.the-variants as loaded
 use Rattle.board.proofs.Promise.{Accepted, isTable-board, isTable-stored, accepted-isTable, tableIn-accepted, boardOf-tableOf, accepted-of, refusedAt-of, accepted-iff}
 use Rattle.search.specs.Search.{Search, bench}
 use Rattle.search.specs.Store.{storedOf}
-use Rattle.search.specs.EntryPoints.{openQuestion, openedSearch, OpensAs, RunAnswer, runSearch}
+use Rattle.search.specs.EntryPoints.{openQuestion, openedSearch, OpensAs, runSearch}
 use Rattle.search.specs.declared.Opening.{Opening}
 use Rattle.search.specs.declared.Opened.the-variants as answer
 use Rattle.search.specs.Listing.{ranText, refusedText, refusedFileText, openedText, askedText, opened, loadedText, listing, listingAt}
 use Rattle.search.proofs.Laws.EntryPoints.{granted-of, refused-of, opened-question}
-use Rattle.search.proofs.Laws.Store.{Formed}
 use Rattle.search.proofs.Laws.Store.Steps.{opening-formed}
 use Rattle.text.specs.Lent.{mostText}
 use Rattle.text.proofs.Laws.Length.{ran-length}
@@ -40,38 +38,28 @@ module _ (t : Table) (h : T (isTable t)) (question : List ℕ) (r : Opening) (op
   -- a refused question
   pub opened-refused : (number : ℕ) → r .answer ≡ answer.Refused number → openedText bench (boardOf t) (openQuestion t question) allowance ≡ refusedText number
   unfolding openedText
-  opened-refused number e =
-      ap (λ (a : Answer Search). openedText bench (boardOf t) a allowance) (refused-of (openQuestion t question) number (rw e at (opens .answers)))
+  opened-refused number e = rw (refused-of (openQuestion t question) number (rw e at (opens .answers)))
 
   module _ (e : r .answer ≡ answer.Accepted) where
     was : (s : Search) × (openQuestion t question ≡ granted s)
     was = granted-of (openQuestion t question) (rw e at (opens .answers))
 
-    same : r .search ≡ storedOf (was .0)
-    unfolding openedSearch
-    same = opens .search ∙ ap openedSearch (was .1)
-
-    formed : Formed bench (boardOf t) (was .0)
-    unfolding bench
-    formed =
-        let (q, below) = opened-question t question (was .0) (was .1) in
-        subst (Formed bench (boardOf t)) (sym q) (opening-formed (boardOf t) question below bench (omega arith))
-
     -- from this search the run is that of the definition
     runs : runSearch bench t (r .search) allowance ≡ runSearch bench (tableOf (boardOf t)) (storedOf (was .0)) allowance
-    runs = ap₂ (λ (u : Table) s. runSearch bench u s allowance) (isTable-stored t h) same
+    unfolding openedSearch
+    runs = ap₂ (λ (u : Table) s. runSearch bench u s allowance) (isTable-stored t h) (opens .search ∙ ap openedSearch (was .1))
 
     -- an accepted one: what is printed of its run
     pub opened-accepted : openedText bench (boardOf t) (openQuestion t question) allowance ≡ printed
     unfolding openedText
-    opened-accepted =
-        ap (λ (a : Answer Search). openedText bench (boardOf t) a allowance) (was .1) ∙ ap (ranText (boardOf t)) (sym runs)
+    opened-accepted = rw (runs, was .1)
 
     -- for which there is room
     pub opened-length : allowance ≤ 65535 → length printed ≤ mostText
+    unfolding bench
     opened-length most =
-        subst (λ (a : RunAnswer). length (ranText (boardOf t) a) ≤ mostText) (sym runs)
-        (ran-length (boardOf t) (isTable-board t h) (was .0) formed allowance most)
+        let (q, below) = opened-question t question (was .0) (was .1) in
+        rw runs (ran-length (boardOf t) (isTable-board t h) (was .0) (rw q (opening-formed (boardOf t) question below bench (omega arith))) allowance most)
 
 -- ---- an input
 
@@ -86,24 +74,18 @@ module _ (b : Board) where
   pub asked-short : (input : List ℕ) → length input < getD input 0 0 + 3 → askedText bench b input ≡ refusedText 21
   unfolding askedText
   asked-short [] l = refl
-  asked-short (count ∷ input) l =
-      ap (λ (u : Bool). cond u (refusedText 21) (openedText bench b (openQuestion (tableOf b) (take count input)) (getD input count 0 + 256 * getD input (count + 1) 0)))
-      (lt-ltb (length input) (count + 2) (omega arith))
+  asked-short (count ∷ input) l = rw (lt-ltb (length input) (count + 2) (omega arith))
 
   -- enough
-  pub asked-whole : (input question : List ℕ) (allowance : ℕ) → getD input 0 0 + 3 ≤ length input → question ≡ take (getD input 0 0) (drop 1 input)
-      → allowance ≡ getD input (getD input 0 0 + 1) 0 + 256 * getD input (getD input 0 0 + 2) 0
-      → askedText bench b input ≡ openedText bench b (openQuestion (tableOf b) question) allowance
+  pub asked-whole : (input : List ℕ) (n : ℕ) → n ≡ getD input 0 0 → n + 3 ≤ length input
+      → askedText bench b input ≡ openedText bench b (openQuestion (tableOf b) (take (1 + n - 1) (drop 1 input))) (getD input (1 + n) 0 + 256 * getD input (1 + n + 1) 0)
   unfolding askedText
-  asked-whole [] question allowance l q a = absurd (omega arith)
-  asked-whole (count ∷ input) question allowance l q a =
-      let one : count + 1 ≡ suc count = omega arith in
-      let two : count + 2 ≡ suc (count + 1) = omega arith in
-      let allowed : getD input count 0 + 256 * getD input (count + 1) 0 ≡ allowance =
-      sym (a ∙ ap₂ (λ (m n : ℕ). getD (count ∷ input) m 0 + 256 * getD (count ∷ input) n 0) one two) in
-      ap (λ (u : Bool). cond u (refusedText 21) (openedText bench b (openQuestion (tableOf b) (take count input)) (getD input count 0 + 256 * getD input (count + 1) 0)))
-      (le-ltb (length input) (count + 2) (omega arith))
-      ∙ ap₂ (λ (xs : List ℕ) (n : ℕ). openedText bench b (openQuestion (tableOf b) xs) n) (sym q) allowed
+  asked-whole [] n e l = absurd (omega arith)
+  asked-whole (count ∷ input) n e l =
+      let atoms : 1 + n - 1 ≡ count = omega arith in
+      let low : 1 + n ≡ suc count = omega arith in
+      let high : 1 + n + 1 ≡ suc (count + 1) = omega arith in
+      rw (atoms, high, low, le-ltb (length input) (count + 2) (omega arith))
 
 -- ---- a file
 
@@ -111,8 +93,7 @@ module _ (file input : List ℕ) (r : Loading) (loads : LoadsAs (load file) r) w
   -- a refused one
   pub loaded-refused : (number place : ℕ) → r .answer ≡ loaded.Refused number place → listing (some file) input ≡ refusedFileText number place
   unfolding listing listingAt opened loadedText
-  loaded-refused number place e =
-      ap (λ (a : FileAnswer Board). loadedText bench a input) (refusedAt-of (load file) number place (rw e at (loads .answers)))
+  loaded-refused number place e = rw (refusedAt-of (load file) number place (rw e at (loads .answers)))
 
   module _ (bytes : T (areBytes file)) (e : r .answer ≡ loaded.Accepted) where
     was-accepted : (b : Board) × (load file ≡ accepted b)
@@ -131,6 +112,4 @@ module _ (file input : List ℕ) (r : Loading) (loads : LoadsAs (load file) r) w
     -- and its question is looked at
     pub loaded-asked : listing (some file) input ≡ askedText bench (boardOf (r .table)) input
     unfolding listing listingAt opened loadedText
-    loaded-asked =
-        ap (λ (a : FileAnswer Board). loadedText bench a input) (was-accepted .1)
-        ∙ ap (λ (b : Board). askedText bench b input) (sym (ap boardOf table ∙ boardOf-tableOf board))
+    loaded-asked = rw (was-accepted .1) (ap (λ (b : Board). askedText bench b input) (sym (ap boardOf table ∙ boardOf-tableOf board)))

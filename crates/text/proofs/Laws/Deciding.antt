@@ -1,7 +1,7 @@
 -- The first bytes of a file and of an input decide what is printed. Assumes nothing.
 use Prim.Native.Nat.{ℕ, _≤_, _+_, _-_, _*_, _<_}
 use native.Mathlib.Omega.{arith}
-use mathlib.Core.Path.{_≡_, refl, sym, ap, ap₂, _∙_}
+use mathlib.Core.Path.{_≡_, refl, sym, _∙_}
 use mathlib.Core.Bool.{Bool, true, false, cond}
 use mathlib.Core.List.{List, [], _∷_}
 use lib.Dec.{T, ltb}
@@ -10,12 +10,12 @@ use lib.Pow.{areBytes}
 use lib.Seq.{length-take-le, take-take, getD-take}
 use borrow.Author.Tests.{ltb-true, ltb-false, lt-ltb, ne-eqb}
 use Rattle.sets.proofs.Laws.Tests.{ltb-ext, true-of-T}
-use Rattle.board.specs.Answers.{Answer, refused, FileAnswer, accepted, refusedAt}
+use Rattle.board.specs.Answers.{refused, FileAnswer, accepted, refusedAt}
 use Rattle.board.specs.Board.{Board}
 use Rattle.board.specs.Load.{load}
 use Rattle.board.specs.Table.{tableOf, isTable}
 use Rattle.board.proofs.Promise.{Accepted, load-take, accepted-isTable, accepted-iff}
-use Rattle.search.specs.Search.{Search, bench}
+use Rattle.search.specs.Search.{bench}
 use Rattle.search.specs.EntryPoints.{mostAsked, openQuestion}
 use Rattle.search.specs.Listing.{refusedText, openedText, askedText, opened, loadedText, listing, listingAt}
 use Rattle.text.specs.Deciding.{fileBytes, inputBytes, Decided}
@@ -41,28 +41,25 @@ module _ (b : Board) (k : Accepted b) (count : ℕ) where
   text-many l input true e = refl
   text-many l input false e =
       let enough = ltb-false (length input) (count + 2) e in
-      ap (λ (a : Answer Search). openedText bench b a (getD input count 0 + 256 * getD input (count + 1) 0))
-      (asked-many b k (take count input) (omega (arith, l, length-take-le count input (omega (arith, enough)))))
+      rw (asked-many b k (take count input) (omega (arith, length-take-le count input (omega arith))))
 
   -- what follows decides by its first ten bytes
   text-take : (n : ℕ) → mostAsked + 2 ≤ n → (input : List ℕ)
       → text (take n input) (ltb (length (take n input)) (count + 2)) ≡ text input (ltb (length input) (count + 2))
   text-take n enough input = go (ltb mostAsked count) refl
     where
-      front : List ℕ
-      front = take n input
-
-      go : (t : Bool) → ltb mostAsked count ≡ t → text front (ltb (length front) (count + 2)) ≡ text input (ltb (length input) (count + 2))
+      go : (t : Bool) → ltb mostAsked count ≡ t → text (take n input) (ltb (length (take n input)) (count + 2)) ≡ text input (ltb (length input) (count + 2))
       go true e =
           let l = ltb-true mostAsked count e in
-          text-many l front (ltb (length front) (count + 2)) refl ∙ sym (text-many l input (ltb (length input) (count + 2)) refl)
+          text-many l (take n input) (ltb (length (take n input)) (count + 2)) refl ∙ sym (text-many l input (ltb (length input) (count + 2)) refl)
       go false e =
           let l = ltb-false mostAsked count e in
-          ap (text front)
-          (ltb-ext (length front) (count + 2) (length input) (count + 2) (λ m. omega (arith, l, enough, length-take n input)) (λ m. omega (arith, length-take n input)))
-          ∙ ap₂ (λ (xs : List ℕ) (a : ℕ). cond (ltb (length input) (count + 2)) (refusedText 21) (openedText bench b (openQuestion (tableOf b) xs) a))
-          (take-take count n input (omega (arith, l, enough)))
-          (ap₂ (λ (x y : ℕ). x + 256 * y) (getD-take n input count 0 (omega (arith, l, enough))) (getD-take n input (count + 1) 0 (omega (arith, l, enough))))
+          rw (
+            ltb-ext (length (take n input)) (count + 2) (length input) (count + 2) (λ m. omega (arith, length-take n input)) (λ m. omega (arith, length-take n input)),
+            take-take count n input (omega arith),
+            getD-take n input count 0 (omega arith),
+            getD-take n input (count + 1) 0 (omega arith),
+          )
 
 -- an input
 asked-take : (b : Board) → Accepted b → (input : List ℕ) → askedText bench b (take inputBytes input) ≡ askedText bench b input
@@ -80,5 +77,4 @@ loaded-take file h (refusedAt number place) e input = refl
 -- both
 pub listing-decided : Decided
 unfolding listing listingAt opened
-listing-decided file input h =
-    ap (λ (a : FileAnswer Board). loadedText bench a (take inputBytes input)) (load-take fileBytes (omega arith) file) ∙ loaded-take file h (load file) refl input
+listing-decided file input h = rw (load-take fileBytes (omega arith) file) (loaded-take file h (load file) refl input)

@@ -6,11 +6,9 @@ use mathlib.Core.Path.{_≡_, refl, ap, _∙_}
 use mathlib.Core.Bool.{Bool, true, false}
 use mathlib.Core.List.{List, [], _∷_, _++_}
 use lib.Dec.{ltb}
-use lib.ListN.{length, length-append, set}
+use lib.ListN.{length, length-append}
 use borrow.Author.Tests.{ltb-true, ltb-false, lt-ltb, le-ltb}
 use Rattle.search.specs.Listing.{decimalOf, decimal}
-use Rattle.text.specs.Private.Putting.{HasRoom, PutAs}
-use Rattle.text.proofs.Laws.Putting.{put-none, put-byte, put-length, put-same, room-same}
 
 -- the digits of a number over at most d + 1 of them, by whether it has one
 digits : ℕ → ℕ → Bool → List ℕ
@@ -23,22 +21,25 @@ decimalOf-enough zero e n l m = absurd (omega arith)
 decimalOf-enough (suc d) zero n l m = absurd (omega arith)
 decimalOf-enough (suc d) (suc e) n l m = go (λ i. decimalOf-enough d e (n / 10) (omega arith) (omega arith)) (ltb n 10) refl
   where
-    go : (n / 10 < n → decimalOf d (n / 10) ≡ decimalOf e (n / 10)) → (t : Bool) → ltb n 10 ≡ t
-        → digits d n t ≡ digits e n t
+    go : (n / 10 < n → decimalOf d (n / 10) ≡ decimalOf e (n / 10)) → (t : Bool) → ltb n 10 ≡ t → digits d n t ≡ digits e n t
     go same true q = refl
     go same false q = ap (λ (tenth : List ℕ). tenth ++ ((48 + n % 10) ∷ [])) (same (omega (arith, ltb-false n 10 q)))
 
 -- a number of one digit
-decimal-small : (n : ℕ) → n < 10 → decimal n ≡ (48 + n) ∷ []
+pub decimal-small : (n : ℕ) → n < 10 → decimal n ≡ (48 + n) ∷ []
 unfolding decimal decimalOf digits
 decimal-small n l = ap (digits n n) (lt-ltb n 10 l)
 
 -- any other: the digits of a tenth of it, and the last
-decimal-large : (n : ℕ) → 10 ≤ n → decimal n ≡ decimal (n / 10) ++ ((48 + n % 10) ∷ [])
+pub decimal-large : (n : ℕ) → 10 ≤ n → decimal n ≡ decimal (n / 10) ++ ((48 + n % 10) ∷ [])
 unfolding decimal decimalOf digits
 decimal-large n l =
     ap (digits n n) (le-ltb n 10 l)
     ∙ ap (λ (tenth : List ℕ). tenth ++ ((48 + n % 10) ∷ [])) (decimalOf-enough n (suc (n / 10)) (n / 10) (omega arith) (omega arith))
+
+-- which is one digit more
+pub decimal-more : (n : ℕ) → 10 ≤ n → length (decimal n) ≡ length (decimal (n / 10)) + 1
+decimal-more n l = rw (decimal-large n l, length-append) refl
 
 -- a number below a power of ten has at most as many digits
 pub decimal-length : (k n : ℕ) → n < 10 ^ suc k → length (decimal n) ≤ suc k
@@ -47,44 +48,4 @@ decimal-length (suc k) n l = go (decimal-length k (n / 10)) (ltb n 10) refl
   where
     go : (n / 10 < 10 ^ suc k → length (decimal (n / 10)) ≤ suc k) → (t : Bool) → ltb n 10 ≡ t → length (decimal n) ≤ suc (suc k)
     go tenth true q = omega (arith, ap length (decimal-small n (ltb-true n 10 q)))
-    go tenth false q =
-        omega (
-          arith,
-          ap length (decimal-large n (ltb-false n 10 q)),
-          length-append (decimal (n / 10)) ((48 + n % 10) ∷ []),
-          tenth (omega (arith, l, pow-suc 10 (suc k))),
-        )
-
--- ---- putting the digits
-
-module _ (n : ℕ) (text : List ℕ) (at : ℕ) (room : HasRoom text at (decimal n)) where
-  -- the one digit
-  pub put-small : n < 10 → PutAs text at (decimal n) (set text at (48 + n)) (at + 1)
-  put-small l =
-      let same = decimal-small n l in
-      put-same same
-      (put-byte [] (48 + n) (put-none text at) (room-same same room))
-
-  -- there is room for it
-  pub room-small : n < 10 → at < length text
-  room-small l = omega (arith, room .enough, ap length (decimal-small n l))
-
-  module _ (l : 10 ≤ n) where
-    split : length (decimal n) ≡ length (decimal (n / 10)) + 1
-    split = ap length (decimal-large n l) ∙ length-append (decimal (n / 10)) ((48 + n % 10) ∷ [])
-
-    -- room for the digits of a tenth
-    pub room-tenth : HasRoom text at (decimal (n / 10))
-    room-tenth = record { enough = omega (arith, room .enough, split) }
-
-    module _ {mid : List ℕ} {r : ℕ} (tenth : PutAs text at (decimal (n / 10)) mid r) where
-      -- the last digit after them
-      pub put-large : PutAs text at (decimal n) (set mid r (48 + n % 10)) (r + 1)
-      put-large =
-          let same = decimal-large n l in
-          put-same same
-          (put-byte (decimal (n / 10)) (48 + n % 10) tenth (room-same same room))
-
-      -- there is room for it
-      pub room-last : r < length mid
-      room-last = omega (arith, room .enough, split, tenth .next, put-length tenth room-tenth)
+    go tenth false q = omega (arith, decimal-more n (ltb-false n 10 q), tenth (omega (arith, l, pow-suc 10 (suc k))))

@@ -1,10 +1,9 @@
 -- Demand 3 of what is printed. Assumes nothing.
 use Prim.Native.Nat.{ℕ, _+_, _*_, _≤_}
-use native.Mathlib.Omega.{arith}
-use mathlib.Core.Path.{_≡_, refl, _∙_}
+use mathlib.Core.Path.{_≡_, refl}
 use mathlib.Core.List.{List, [], _∷_}
 use mathlib.Core.Option.{some}
-use lib.Dec.{T, ltb}
+use lib.Dec.{T}
 use lib.ListN.{length, getD, take, drop}
 use lib.Pow.{areBytes}
 use lib.Seq.{take-at}
@@ -13,8 +12,8 @@ use Rattle.board.specs.Answers.{accepted, granted}
 use Rattle.board.specs.Board.{Board}
 use Rattle.board.specs.Load.{load}
 use Rattle.board.specs.Table.{tableOf}
-use Rattle.board.proofs.Promise.{Accepted, accepted-iff}
-use Rattle.search.specs.Search.{Search, bench}
+use Rattle.board.proofs.Promise.{accepted-iff}
+use Rattle.search.specs.Search.{Search}
 use Rattle.search.specs.EntryPoints.{openQuestion}
 use Rattle.search.specs.Listing.{openedText, askedText, loadedText, opened, listing, listingAt}
 use Rattle.bounds.specs.Demand3.{runs}

@@ -9,17 +9,15 @@ use Rattle.sets.specs.Lists.{below}
 use Rattle.search.specs.Listing.{lineText, decimal, bytesOf}
 use Rattle.search.specs.Layout.{lineIn}
 
--- the bytes with a piece over those from place `at` on
-unfoldable pub withPiece : List ℕ → ℕ → List ℕ → List ℕ
-withPiece text at piece = take at text ++ (piece ++ drop (at + length piece) text)
-
 -- there is room for a piece from place `at` on
-pub record HasRoom (text : List ℕ) (at : ℕ) (piece : List ℕ) : Type 0 where
-  pub enough : at + length piece ≤ length text
+abbrev pub HasRoom : List ℕ → ℕ → List ℕ → Type 0
+HasRoom text at piece = at + length piece ≤ length text
 
--- what putting a piece leaves, and answers: the place after it
+-- what putting a piece leaves, and answers: the place r after it, up to which stand the bytes before it and the piece, and from which on all is as it was
 pub record PutAs (before : List ℕ) (at : ℕ) (piece after : List ℕ) (r : ℕ) : Type 0 where
-  pub bytes : after ≡ withPiece before at piece
+  pub front : take r after ≡ take at before ++ piece
+  pub behind : (n : ℕ) → r ≤ n → drop n after ≡ drop n before
+  pub same : length after ≡ length before
   pub next : r ≡ at + length piece
 
 -- the texts of the numbers below n, one after another
