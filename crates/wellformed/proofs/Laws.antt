@@ -4,6 +4,7 @@ pub mod Conflicts
 pub mod First
 pub mod Hypotheses
 pub mod Indices
+pub mod Joined
 pub mod Lent
 pub mod Ordered
 pub mod Weights

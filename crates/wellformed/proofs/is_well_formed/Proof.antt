@@ -4,16 +4,14 @@ use borrow.Author.Needs.{needs}
 use borrow.Author.Tests.{ltb-true, ltb-false}
 use mathlib.Core.Path.{_≡_, sym, _∙_}
 use mathlib.Core.Bool.{Bool}
-use mathlib.Core.List.{List}
 use mathlib.Core.Logic.{inl, inr}
 use Prim.Native.Nat.{ℕ, _≤_}
 use denote.Ref.{now}
 use Rattle.sets.proofs.Laws.Tests.{T-of-true, false-of-T, and-then, and-else, and-left, and-right}
 use Rattle.board.specs.Board.{Board}
 use Rattle.search.specs.Layout.{entryRoom, lineRoom}
-use Rattle.search.specs.declared.Counts.{Counts}
 use Rattle.prepared.specs.Prepared.{Known}
-use Rattle.wellformed.specs.Lent.{limitsOf}
+use Rattle.wellformed.proofs.Laws.Joined.{and-joined}
 use Rattle.wellformed.proofs.Laws.Lent as tests
 use Rattle.wellformed.proofs.is_well_formed.Statement.{statement}
 use Rattle.wellformed.proofs.is_well_formed.Tie as tie
@@ -46,66 +44,49 @@ room c =
 
 -- ---- the tests, from the first on
 
--- some of them, of the words and counts that are lent
-abbrev Passes : (Board → List ℕ → List ℕ → Counts → Bool) → tie.After-entries-end → Bool → Type 0
-Passes tests c found =
+-- the first k of them, of the words and counts that are lent
+abbrev Passes : ℕ → tie.After-entries-end → Bool → Type 0
+Passes k c found =
     let a = c .before .before .before .before .before .before .before .before .before .before .before .args in
-    (b : Board) → Known b (now (a .words)) (a .whole) → a .atoms ≡ b .atoms → found ≡ tests b (now (a .entry)) (now (a .line)) (a .counts)
+    (b : Board) → Known b (now (a .words)) (a .whole) → a .atoms ≡ b .atoms → found ≡ tests.passed b (now (a .entry)) (now (a .line)) (a .counts) k
 
-two : (c : tie.Joined5) → Passes tests.two (c .before) (c .if5 .if6)
+two : (c : tie.Joined5) → Passes 2 (c .before) (c .if5 .if6)
 two c = λ b known atoms.
     let first = sym (c .before .entries-end .ensures) in
-    elim (c .if5 .came) [
-      | inl w ↦ and-then (first ∙ w .0 .taken) (w .2 ∙ w .1 .ensures)
-      | inr w ↦ and-else _ (first ∙ w .0 .left) (w .1 ∙ sym first)
-    ]
+    and-joined (c .if5 .came) (λ w. (first ∙ w .0 .taken, w .2 ∙ w .1 .ensures)) (λ w. (first ∙ w .0 .left, w .1 ∙ sym first))
 
-three : (c : tie.Joined6) → Passes tests.three (c .before .before) (c .if6 .if7)
+three : (c : tie.Joined6) → Passes 3 (c .before .before) (c .if6 .if7)
 three c = λ b known atoms.
     let first = sym (two (c .before) b known atoms) in
-    elim (c .if6 .came) [
-      | inl w ↦ and-then (first ∙ w .0 .taken) (w .2 ∙ w .1 .ensures b known atoms)
-      | inr w ↦ and-else _ (first ∙ w .0 .left) (w .1 ∙ sym first)
-    ]
+    and-joined (c .if6 .came) (λ w. (first ∙ w .0 .taken, w .2 ∙ w .1 .ensures b known atoms)) (λ w. (first ∙ w .0 .left, w .1 ∙ sym first))
 
-four : (c : tie.Joined7) → Passes tests.four (c .before .before .before) (c .if7 .if8)
+four : (c : tie.Joined7) → Passes 4 (c .before .before .before) (c .if7 .if8)
 four c = λ b known atoms.
     let first = sym (three (c .before) b known atoms) in
-    elim (c .if7 .came) [
-      | inl w ↦ and-then (first ∙ w .0 .taken) (w .2 ∙ w .1 .ensures b known atoms)
-      | inr w ↦ and-else _ (first ∙ w .0 .left) (w .1 ∙ sym first)
-    ]
+    and-joined (c .if7 .came) (λ w. (first ∙ w .0 .taken, w .2 ∙ w .1 .ensures b known atoms)) (λ w. (first ∙ w .0 .left, w .1 ∙ sym first))
 
-five : (c : tie.Joined8) → Passes tests.five (c .before .before .before .before) (c .if8 .if9)
+five : (c : tie.Joined8) → Passes 5 (c .before .before .before .before) (c .if8 .if9)
 five c = λ b known atoms.
     let first = sym (four (c .before) b known atoms) in
-    elim (c .if8 .came) [
-      | inl w ↦ and-then (first ∙ w .0 .taken) (w .2 ∙ w .1 .ensures)
-      | inr w ↦ and-else _ (first ∙ w .0 .left) (w .1 ∙ sym first)
-    ]
+    and-joined (c .if8 .came) (λ w. (first ∙ w .0 .taken, w .2 ∙ w .1 .ensures)) (λ w. (first ∙ w .0 .left, w .1 ∙ sym first))
 
-six : (c : tie.Joined9) → Passes tests.six (c .before .before .before .before .before) (c .if9 .if10)
+six : (c : tie.Joined9) → Passes 6 (c .before .before .before .before .before) (c .if9 .if10)
 six c = λ b known atoms.
     let first = sym (five (c .before) b known atoms) in
-    elim (c .if9 .came) [
-      | inl w ↦ and-then (first ∙ w .0 .taken) (w .2 ∙ w .1 .ensures)
-      | inr w ↦ and-else _ (first ∙ w .0 .left) (w .1 ∙ sym first)
-    ]
+    and-joined (c .if9 .came) (λ w. (first ∙ w .0 .taken, w .2 ∙ w .1 .ensures)) (λ w. (first ∙ w .0 .left, w .1 ∙ sym first))
 
-seven : (c : tie.Joined10) → Passes tests.seven (c .before .before .before .before .before .before) (c .if10 .if11)
+seven : (c : tie.Joined10) → Passes 7 (c .before .before .before .before .before .before) (c .if10 .if11)
 seven c = λ b known atoms.
     let first = sym (six (c .before) b known atoms) in
-    elim (c .if10 .came) [
-      | inl w ↦ and-then (first ∙ w .0 .taken) (w .2 ∙ w .1 .ensures b _ known (tests.six-choices b _ _ _ (T-of-true (first ∙ w .0 .taken))))
-      | inr w ↦ and-else _ (first ∙ w .0 .left) (w .1 ∙ sym first)
-    ]
+    and-joined (c .if10 .came) (λ w. (first ∙ w .0 .taken, w .2 ∙ w .1 .ensures b _ known (tests.six-choices b _ _ _ (T-of-true (first ∙ w .0 .taken))))) (λ w. (first ∙ w .0 .left, w .1 ∙ sym first))
 
 returns-2 : tie.Need-returns-2
 returns-2 c = λ b known atoms.
     let passed = sym (seven (c .before .before) b known atoms) ∙ c .before .if11 .taken in
     let (few, short, n, m) = room (c .before .before .before .before .before .before .before .before .before) in
-    let six = and-left (tests.six b _ _ _) _ (T-of-true passed) in
-    and-then passed (c .lines-first .ensures (and-right (tests.four b _ _ _) _ (and-left (tests.five b _ _ _) _ six)) (and-right (tests.five b _ _ _) _ six)) ∙ tests.eight-formed b _ _ _ _ few short n m
+    let six = and-left (tests.passed b _ _ _ 6) _ (T-of-true passed) in
+    and-then passed (c .lines-first .ensures (and-right (tests.passed b _ _ _ 4) _ (and-left (tests.passed b _ _ _ 5) _ six)) (and-right (tests.passed b _ _ _ 5) _ six))
+    ∙ tests.eight-formed b _ _ _ _ few short n m
 
 returns-3 : tie.Need-returns-3
 returns-3 c = λ b known atoms.
