@@ -38,11 +38,11 @@
                             basic steps, at most some                   KiB of stack
      vilthomm_load          130,000, however long the file                14.4   (17.4)
      vilthomm_open          90,000                                        39.3   (68.3)
-     vilthomm_run           2,300,000, and 1,500,000 for each step       <RUN_OWN>  (<RUN_STACK>)
-     vilthomm_share         2,300,000                                    <SHARE_OWN>  (<SHARE_STACK>)
+     vilthomm_run           2,300,000, and 1,500,000 for each step       115.5  (170.6)
+     vilthomm_share         2,300,000                                     47.3   (76.3)
      vilthomm_yes_or_no     330,000                                       15.2   (18.2)
      vilthomm_total         90,000                                        10.2   (13.2)
-     vilthomm_listing       load's, open's and run's, 700,000 more       <LISTING_STACK>  (<LISTING_STACK>)
+     vilthomm_listing       load's, open's and run's, 700,000 more       149.6  (149.6)
 
    The bound of a step is that of an atom with 256 rules. `bench/run` measures, in processor time on a current x86-64, along whole stretches at 480 to 512
    entries on five boards (bench/README.md has its figures):
