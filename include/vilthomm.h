@@ -38,8 +38,8 @@
                             basic steps, at most some                   KiB of stack
      vilthomm_load          130,000, however long the file                14.4   (17.4)
      vilthomm_open          90,000                                        39.3   (68.3)
-     vilthomm_run           2,300,000, and 1,500,000 for each step       115.5  (170.6)
-     vilthomm_share         2,300,000                                     47.3   (76.3)
+     vilthomm_run           2,500,000, and 1,500,000 for each step       115.5  (170.6)
+     vilthomm_share         2,500,000                                     47.3   (76.3)
      vilthomm_yes_or_no     330,000                                       15.2   (18.2)
      vilthomm_total         90,000                                        10.2   (13.2)
      vilthomm_listing       load's, open's and run's, 700,000 more       149.6  (149.6)

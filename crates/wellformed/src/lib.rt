@@ -21,7 +21,7 @@ mod tests;
 
 // Whether the search with these counts, whose entries and lines stand in `entry` and `line`, is well formed at these limits over the table whose words, W and
 // number of atoms these are. Counts past what the slices have room for are not well formed. The last two tests rely on those before them. On a
-// full search some 720,000 basic steps at 5 atoms a set, of which 390,000 are the pairs of lines, and at most some 2,100,000 at 32. Nothing is copied.
+// full search some 980,000 basic steps at 5 atoms a set, of which 590,000 are the pairs of lines, and at most some 2,300,000 at 32. Nothing is copied.
 pub fn is_well_formed<'a>(
     words: &[u64; 1408],
     whole: u64,
