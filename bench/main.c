@@ -7,11 +7,12 @@
    taken in turn. Compiled with OURS 0, the library is left out. The status is 1 where answers differ or a goal is missed. */
 #include "along.h"
 #include "calls.h"
+#include "stretch.h"
 #include <stdio.h>
 #include <stdlib.h>
 #include <string.h>
 
-enum { DEPTH = 480, TURNS = 60 };
+enum { TURNS = 60 };
 enum { DEAR_STEPS = 1000, DEAR_STRIDE = 250, DEAR_RUNS = 24, DEAR_TURNS = 5 };
 
 static bool missed;
@@ -74,34 +75,6 @@ static void compare_runs(test *t, const unsigned *allowance, unsigned allowances
         t->whole_steps += (unsigned)a[PLAIN].steps;
     }
     t->ends = a[PLAIN];
-}
-
-/* Step by step: where the longest stretch at depth begins, how long it is, and how deep; and the fullest search. */
-static void find_stretch(test *t)
-{
-    static search s, first;
-    unsigned steps = 0;
-    size_t least = 0, most = 0;
-    plain_open(&t->board, t->asked.atom, t->asked.count, &s);
-    for (unsigned n = 0; n < t->asked.allowance; n++) {
-        if (steps == 0) {
-            first = s;
-            least = most = s.entries;
-        }
-        if (plain_run(&t->board, &s, 1).steps == 0)
-            break;
-        least = s.entries < least ? s.entries : least;
-        most = s.entries > most ? s.entries : most;
-        steps = least < DEPTH ? 0 : steps + 1;
-        if (steps > t->steps) {
-            t->from = first;
-            t->steps = steps;
-            t->least = least;
-            t->most = most;
-        }
-        if (s.entries + s.lines > t->full.entries + t->full.lines)
-            t->full = s;
-    }
 }
 
 static void print_ending(const test *t)
