@@ -46,13 +46,13 @@
 
    The bound of a step is that of an atom with 256 rules. `bench/run` measures, in processor time on a current x86-64, along whole stretches at 480 to 512
    entries on five boards (bench/README.md has its figures):
-   - A step takes 40 to 150 nanoseconds on average. A run tests its table and its search each time: beside its steps it takes up to 90 to 170 microseconds,
-     by the board, as long as 1,300 to 3,000 steps there, and less over a small search. So a run of 1,000 steps takes up to 130 to 380 microseconds, most of
+   - A step takes 30 to 130 nanoseconds on average. A run tests its table and its search each time: beside its steps it takes up to 85 to 150 microseconds,
+     by the board, as long as 1,200 to 4,000 steps there, and less over a small search. So a run of 1,000 steps takes up to 120 to 270 microseconds, most of
      it tests. Few long runs are cheaper than many short ones.
-   - A share makes the same tests, at each call: up to 85 to 170 microseconds. Of a whole list, line[VILTHOMM_LINE_WEIGHT][i] * 1000 / low of a run's answer
+   - A share makes the same tests, at each call: up to 85 to 145 microseconds. Of a whole list, line[VILTHOMM_LINE_WEIGHT][i] * 1000 / low of a run's answer
      is the same.
-   - In long runs the library takes 2.0 to 3.1 times the steps a second of plain C with its entries sorted in one array, 0.9 to 1.5 times those of the same
-     C with an array that has their order, and 0.2 to 0.9 times those of the fastest C that was found. That C tests nothing.
+   - In long runs the library takes 2.4 to 4.6 times the steps a second of plain C with its entries sorted in one array, 1.0 to 1.7 times those of the same
+     C with an array that has their order, and 0.2 to 1.2 times those of the fastest C that was found. That C tests nothing.
    - On the dearest board that was found (217 rules of one atom, pending again and again beside 500 entries), runs of 1,000 steps take up to 20 microseconds
      a step, so 20 milliseconds. That no board is dearer is not claimed.
 
@@ -83,7 +83,7 @@ extern "C" {
 #endif
 
 /* Which library and command this is; CHANGELOG.md says what each version is. */
-#define VILTHOMM_VERSION "0.2"
+#define VILTHOMM_VERSION "0.2.1"
 
 /* Which layout the structs have; it goes up whenever one of them changes. The names that the linker sees carry it: vilthomm_run is vilthomm_run_layout_2 there.
    So a header and an archive whose structs differ do not link, and "undefined reference to vilthomm_run_layout_.." says that they are not of one version. */
