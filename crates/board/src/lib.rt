@@ -9,7 +9,7 @@ mod weights;
 
 // A board: the hypotheses and the rules in the order of the file, one array a field. Room past a count is zero. Laid out as in C, for `firmware`.
 #[repr(C)]
-#[derive(Drop)]
+#[derive(Clone, Copy)]
 pub struct Table {
     pub atoms: usize,
     pub hypotheses: usize,
@@ -24,7 +24,7 @@ pub struct Table {
 }
 
 // A record by its kind. The eight places of a rule stand in one number, the first place in its low byte.
-#[derive(Drop)]
+#[derive(Clone, Copy)]
 pub enum Record {
     Count(u8),
     Hypothesis(u8, u8, u32),
@@ -33,28 +33,28 @@ pub enum Record {
 }
 
 // What reading one record answers: the record and the place of the next, or a refusal's number and its place.
-#[derive(Drop)]
+#[derive(Clone, Copy)]
 pub enum Read {
     At(Record, usize),
     Refused(u8, usize),
 }
 
 // What loading answers beside the table: accepted, or the refusal's number and its place in the file.
-#[derive(Drop)]
+#[derive(Clone, Copy)]
 pub enum Loaded {
     Accepted,
     Refused(u8, usize),
 }
 
 // What loading hands back.
-#[derive(Drop)]
+#[derive(Clone, Copy)]
 pub struct Loading {
     pub answer: Loaded,
     pub table: Table,
 }
 
 // What the yes-or-no answers.
-#[derive(Drop)]
+#[derive(Clone, Copy)]
 pub enum Told {
     Yes,
     No,

@@ -18,7 +18,7 @@ use sets::mask::Mask;
 const MOST_WEIGHT: u32 = 16_777_215;
 
 // Whether the hypotheses pass, and what is known of them if they do.
-#[derive(Drop)]
+#[derive(Clone, Copy)]
 struct Passed {
     all: bool,
     seen: Seen,

@@ -16,7 +16,7 @@ use board::walks::wide;
 use sets::mask::{Mask, empty, member, with};
 
 // What the hypotheses so far leave to know of them: how many declarations they have, how many of them are of the last one, and the set of their atoms.
-#[derive(Drop)]
+#[derive(Clone, Copy)]
 pub(crate) struct Seen {
     pub declarations: usize,
     pub last: usize,

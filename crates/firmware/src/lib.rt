@@ -24,7 +24,7 @@ use text::listing;
 
 // A table; or a refusal's number, its place in the file, and the table whose every field is zero.
 #[repr(C)]
-#[derive(Drop)]
+#[derive(Clone, Copy)]
 pub struct LoadAnswer {
     pub number: u64,
     pub place: usize,
@@ -33,7 +33,7 @@ pub struct LoadAnswer {
 
 // A search with one entry; or a refusal's number, and the search whose every field is zero.
 #[repr(C)]
-#[derive(Drop)]
+#[derive(Clone, Copy)]
 pub struct OpenAnswer {
     pub number: u64,
     pub search: Search,
@@ -41,7 +41,7 @@ pub struct OpenAnswer {
 
 // The search that a run leaves; how it ended: 0 done, 1 more, else a refusal's number; how many steps it took, and both ends of the bound.
 #[repr(C)]
-#[derive(Drop)]
+#[derive(Clone, Copy)]
 pub struct RunAnswer {
     pub search: Search,
     pub ending: u64,
@@ -52,7 +52,7 @@ pub struct RunAnswer {
 
 // A share; or a refusal's number, and 0.
 #[repr(C)]
-#[derive(Drop)]
+#[derive(Clone, Copy)]
 pub struct ShareAnswer {
     pub number: u64,
     pub thousandths: u64,
@@ -60,7 +60,7 @@ pub struct ShareAnswer {
 
 // 1 for yes and 0 for no; or a refusal's number, and 0.
 #[repr(C)]
-#[derive(Drop)]
+#[derive(Clone, Copy)]
 pub struct HoldsAnswer {
     pub number: u64,
     pub holds: u64,
@@ -68,7 +68,7 @@ pub struct HoldsAnswer {
 
 // W; or a refusal's number, and 0.
 #[repr(C)]
-#[derive(Drop)]
+#[derive(Clone, Copy)]
 pub struct TotalAnswer {
     pub number: u64,
     pub total: u64,

@@ -23,7 +23,7 @@ const SET_IN_TABLE: usize = 5;
 const TRUE_WEIGHT: usize = 6;
 
 // What the acts are carried out on, and the place of the question last opened.
-#[derive(Drop)]
+#[derive(Clone, Copy)]
 struct Held {
     table: Table,
     search: Search,

@@ -19,7 +19,7 @@ use files::load::load;
 use files::record::read_record;
 
 // The items that a container has.
-#[derive(Drop)]
+#[derive(Clone, Copy)]
 pub(crate) enum Kind {
     Boards,
     States,

@@ -8,7 +8,7 @@ use sets::mask::{Mask, member};
 const MOST_PRINTED: usize = 16;
 
 // Two sums over a row of words, both without what passes 64 bits: that of the words, and that of the first sum after each word.
-#[derive(Drop)]
+#[derive(Clone, Copy)]
 struct Sum {
     words: u64,
     sums: u64,

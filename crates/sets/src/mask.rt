@@ -6,7 +6,7 @@ ghost use Rattle.sets.specs.Masks.{mask_means, with_atom};
 ghost use Rattle.sets.specs.Dictionary.{lowest_first};
 
 // A set of atoms: atoms 0 to 63 in the low word, 64 to 127 in the high one, atom a at digit a % 64.
-#[derive(Drop)]
+#[derive(Clone, Copy)]
 pub struct Mask {
     pub low: u64,
     pub high: u64,

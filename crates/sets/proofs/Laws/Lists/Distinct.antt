@@ -45,7 +45,7 @@ distinct-once m [] h = omega arith
 distinct-once m (x ∷ xs) h = go (eqb x m) refl (distinct-once m xs (distinct_tail x xs h))
   where
     go : (t : Bool) → eqb x m ≡ t → length (keep (λ z. eqb z m) xs) ≤ 1 → length (cond t (x ∷ keep (λ z. eqb z m) xs) (keep (λ z. eqb z m) xs)) ≤ 1
-    go true e k = rw (← eqb-true x m e, keep-none (λ z. eqb z x) xs (distinct_head x xs h)) (omega arith)
+    go true e k = rw (rw (eqb-true x m e) at (keep-none (λ z. eqb z x) xs (distinct_head x xs h))) (omega arith)
     go false e k = k
 
 -- the numbers below m + 1 are those below m, and m
@@ -82,6 +82,7 @@ apart f z xs h y n e = true≢false (sym (rw e (true_of_T (among (map f xs) (f y
 
 -- members with equal images are equal, where the images are distinct
 pub distinct-members : {A : Type 0} (f : A → ℕ) (xs : List A) → T (distinct (map f xs)) → (x y : A) → Memᴰ x xs → Memᴰ y xs → f x ≡ f y → x ≡ y
+distinct-members f [] h x y m _ e = elim m [ ]
 distinct-members f (z ∷ xs) h x y (Memᴰ.head a) (Memᴰ.head b) e = a ∙ sym b
 distinct-members f (z ∷ xs) h x y (Memᴰ.head a) (Memᴰ.tail n) e = absurd (apart f z xs h y n (sym (ap f a) ∙ e))
 distinct-members f (z ∷ xs) h x y (Memᴰ.tail m) (Memᴰ.head b) e = absurd (apart f z xs h x m (sym (ap f b) ∙ sym e))
@@ -91,6 +92,7 @@ distinct-members f (z ∷ xs) h x y (Memᴰ.tail m) (Memᴰ.tail n) e = distinct
 pub keep_one : {A : Type 0} (f : A → ℕ) (p : A → Bool) (h : A) (xs : List A) → T (distinct (map f xs)) → Memᴰ h xs → T (p h)
     → ((k : A) → Memᴰ k xs → T (p k) → f k ≡ f h) → keep p xs ≡ h ∷ []
 unfolding keep
+keep_one f p h [] d m t only = elim m [ ]
 keep_one f p h (x ∷ xs) d (Memᴰ.head e) t only =
     rw (← e, true_of_T (p h) t, keep-none p xs (any_none p xs (λ k n u. apart f x xs d k n (ap f (sym e) ∙ sym (only k (Memᴰ.tail n) u)))))
 keep_one f p h (x ∷ xs) d (Memᴰ.tail n) t only =

@@ -1,0 +1,14 @@
+-- `number_in` meets its contract, case by case. Assumes nothing.
+use borrow.Author.Rules.{rules}
+use mathlib.Core.Path.{sym, ap}
+use Rattle.board.specs.EntryPoints.{read_means}
+use Rattle.files.specs.Private.Taking.{number_in}
+use Rattle.files.proofs.load.number_in.Goals as goal
+
+pub returns-in-At : goal.returns-in-At
+unfolding read_means number_in
+returns-in-At c = sym (ap (λ r. number_in (read_means r)) c.in-At.is)
+
+pub returns-in-Refused : goal.returns-in-Refused
+unfolding read_means number_in
+returns-in-Refused c = sym (ap (λ r. number_in (read_means r)) c.in-Refused.is)

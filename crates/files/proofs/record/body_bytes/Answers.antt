@@ -1,0 +1,20 @@
+-- `body_bytes` meets its contract: each arm is a case of `body_bytes`. Assumes nothing.
+use borrow.Author.Tests.{ne_eqb}
+use Rattle.board.specs.File.{body_bytes}
+use Rattle.files.proofs.record.body_bytes.Goals as goal
+
+pub returns-in-1 : goal.returns-in-1
+unfolding body_bytes
+returns-in-1 c = rw c.in-1.is
+
+pub returns-in-2 : goal.returns-in-2
+unfolding body_bytes
+returns-in-2 c = rw c.in-2.is
+
+pub returns-in-3 : goal.returns-in-3
+unfolding body_bytes
+returns-in-3 c = rw c.in-3.is
+
+pub returns-in_default : goal.returns-in_default
+unfolding body_bytes
+returns-in_default c = simp (ne_eqb _ _ c.in_default.rest.1, ne_eqb _ _ c.in_default.rest.0.1, ne_eqb _ _ c.in_default.rest.0.0.1)
