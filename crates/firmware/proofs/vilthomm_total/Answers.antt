@@ -9,13 +9,14 @@ use Rattle.board.specs.Table.{is_table}
 use Rattle.board.proofs.Promise.{table-weight}
 use Rattle.firmware.specs.Answers.{number_of, granted_number, total_of, total_answer}
 use Rattle.firmware.proofs.vilthomm_total.Goals as goal
+use Rattle.firmware.proofs.vilthomm_total.Goals.{Else-not-is_table}
 
 pub returns-then-not-is_table : goal.returns-then-not-is_table
 unfolding number_of granted_number total_of total_answer
 returns-then-not-is_table c = simp (sym c.is_table.ensures ∙ not-true _ c.if-not-is_table.true)
 
 -- some file loads to the table
-accepted : (c : goal.Else-not-is_table) → is_table c.args.t1 ≡ true
+accepted : (c : Else-not-is_table) → is_table c.args.t1 ≡ true
 accepted c = sym c.is_table.ensures ∙ not-false _ c.if-not-is_table.false
 
 pub returns : goal.returns

@@ -14,9 +14,10 @@ use Rattle.board.proofs.Laws.Lent.{declarations_in-lent}
 use Rattle.board.specs.Table.{hypotheses_in}
 use Rattle.holding.specs.Private.Remembered.{hypotheses_alone}
 use Rattle.holding.proofs.is_state.Goals as goal
+use Rattle.holding.proofs.is_state.Goals.{Start}
 
 -- as many declarations as the hypotheses with these atoms have
-counted : (s : goal.Start) → let a = s.args in a.count ≡ declarations_in (hypotheses_in a.numbers.now a.atom.now [] a.hypotheses)
+counted : (s : Start) → let a = s.args in a.count ≡ declarations_in (hypotheses_in a.numbers.now a.atom.now [] a.hypotheses)
 counted s = let a = s.args in s.requires.1 ∙ declarations_in-lent a.numbers.now [] a.atom.now [] [] a.hypotheses
 
 pub returns-then-state-count : goal.returns-then-state-count

@@ -17,6 +17,7 @@ use Rattle.board.proofs.Laws.Table.Fields.{is_table_stands, is_table_sized}
 use Rattle.board.proofs.Laws.Table.Fields.Parts.{sizes_parts}
 use Rattle.board.specs.EntryPoints.{told_means, yes_or_no}
 use Rattle.holding.proofs.yes_or_no.Goals as goal
+use Rattle.holding.proofs.yes_or_no.Goals.{After-holds_in, After-is_state, Else-not-is_table}
 
 pub returns-then-not-is_table : goal.returns-then-not-is_table
 unfolding told_means yes_or_no
@@ -25,10 +26,10 @@ returns-then-not-is_table c = simp (sym c.is_table.ensures ∙ not-true _ c.if-n
 -- ---- what the tests found, test by test
 
 -- some file loads to the table
-accepted : (c : goal.Else-not-is_table) → is_table c.args.t1 ≡ true
+accepted : (c : Else-not-is_table) → is_table c.args.t1 ≡ true
 accepted c = sym c.is_table.ensures ∙ not-false _ c.if-not-is_table.false
 
-room : (c : goal.Else-not-is_table) → c.args.t1.hypotheses ≤ 128
+room : (c : Else-not-is_table) → c.args.t1.hypotheses ≤ 128
 room c =
     let t = c.args.t1 in
     omega (arith, sizes_parts t (is_table_stands t (T_of_true (accepted c))).sizes)
@@ -38,7 +39,7 @@ is_state-requires c =
     (room (goal.at.is_state-requires c).Else-not-is_table, rw (table-count c.args.t1 (T_of_true (accepted (goal.at.is_state-requires c).Else-not-is_table))) at (c.declarations_of-declarations.ensures.by_index [] []))
 
 -- the state's test, said of the board
-state_test : (c : goal.After-is_state) (u : Bool) → c.is_state.result ≡ u → let a = c.args in
+state_test : (c : After-is_state) (u : Bool) → c.is_state.result ≡ u → let a = c.args in
     is_state_of (declarations (board_of a.t1)) a.state.now ≡ u
 unfolding board_of declarations
 state_test c u e = let t = c.args.t1 in is_state_of-lent t.declaration t.atom t.weight [] t.hypotheses _ ∙ sym c.is_state.ensures ∙ e
@@ -59,14 +60,14 @@ holds_in-requires c =
     (table-sound t (T_of_true (accepted (goal.at.holds_in-requires c).Else-not-is_table)) (is_table_sized t (T_of_true (accepted (goal.at.holds_in-requires c).Else-not-is_table))).body, omega (arith, sizes_parts t (is_table_stands t (T_of_true (accepted (goal.at.holds_in-requires c).Else-not-is_table))).sizes, c.wide.ensures.value))
 
 -- the holding test, said of the board
-holding_test : (c : goal.After-holds_in) (u : Bool) → c.holds_in.result ≡ u
+holding_test : (c : After-holds_in) (u : Bool) → c.holds_in.result ≡ u
     → let a = c.args in
     holds (in_state a.state.now) (board_of a.t1) a.atom ≡ u
 unfolding board_of holds
 holding_test c u e = sym c.holds_in.ensures ∙ e
 
 -- the three refusals are past, and the answer is the holding test's
-past : (c : goal.After-holds_in) (u : Bool) → c.holds_in.result ≡ u
+past : (c : After-holds_in) (u : Bool) → c.holds_in.result ≡ u
     → let a = c.args in
     yes_or_no a.t1 a.state.now a.atom ≡ granted u
 unfolding yes_or_no

@@ -8,9 +8,10 @@ use Rattle.text.proofs.Laws.Lent.{lent_short, lent-put}
 use Rattle.text.proofs.Laws.Length.{refused-file-length}
 use Rattle.text.proofs.Laws.Answered.{loaded-refused, loaded-table, loaded-asked}
 use Rattle.text.proofs.listing.Goals as goal
+use Rattle.text.proofs.listing.Goals.{After-shared_slice_known-1}
 
 -- the file's bytes are bytes
-bytes : (c : goal.After-shared_slice_known-1) → T (are_bytes c.args.file.now)
+bytes : (c : After-shared_slice_known-1) → T (are_bytes c.args.file.now)
 bytes c = are_bytes_of c.args.file.now (λ i. omega (arith, c.type_inv.file i))
 
 pub put_asked-requires : goal.put_asked-requires

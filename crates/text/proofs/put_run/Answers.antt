@@ -13,9 +13,10 @@ use Rattle.text.specs.Private.Putting.{lines_text}
 use Rattle.text.proofs.Laws.Putting.{put_both}
 use Rattle.text.proofs.Laws.Texts.{lines_texts}
 use Rattle.text.proofs.put_run.Goals as goal
+use Rattle.text.proofs.put_run.Goals.{After-whole_weight-whole}
 
 -- what is printed of the run: W as `whole_weight` gives it, the lines, the last line
-all : (c : goal.After-whole_weight-whole) → let r = c.run-ran.result in let t = c.args.t2 in
+all : (c : After-whole_weight-whole) → let r = c.run-ran.result in let t = c.args.t2 in
     ran_text (board_of t) (run_search bench t c.args.from c.args.allowance)
     ≡ bytes_of "total " ++ decimal c.whole_weight-whole.result ++ bytes_of "\n" ++ lines_text r.search.line r.search.lines ++ last_text (run_means r)
 unfolding ran_text run_means

@@ -13,6 +13,7 @@ use Rattle.prepared.specs.Prepared.{Known}
 use Rattle.wellformed.proofs.Laws.Joined.{and-joined}
 use Rattle.wellformed.proofs.Laws.Lent as tests
 use Rattle.wellformed.proofs.is_well_formed.Goals as goal
+use Rattle.wellformed.proofs.is_well_formed.Goals.{After-entries_end, Else-line_room-m, Joined-entries_end, Joined-entries_fit, Joined-entries_ordered, Joined-lines_end, Joined-lines_fit, Joined-lines_ordered}
 
 pub returns-then-limits-n : goal.returns-then-limits-n
 unfolding line_room
@@ -26,7 +27,7 @@ returns-then-limits-n c = λ b known atoms. sym (false_of_T _ (λ t.
     ]))
 
 -- the counts are within the limits and the room
-room : (c : goal.Else-line_room-m) → let a = c.args in
+room : (c : Else-line_room-m) → let a = c.args in
     (a.counts.entries ≤ a.limits.entries) × (a.counts.lines ≤ a.limits.lines)
     × (a.counts.entries ≤ entry_room a.entry.now) × (a.counts.lines ≤ line_room a.line.now)
 unfolding line_room
@@ -41,37 +42,37 @@ room c =
 -- ---- the tests, from the first on
 
 -- the first k of them, of the words and counts that are lent
-abbrev Passes : ℕ → goal.After-entries_end → Bool → Type 0
+abbrev Passes : ℕ → After-entries_end → Bool → Type 0
 Passes k c found =
     let a = c.before.before.before.before.before.before.before.before.before.before.before.args in
     (b : Board) → Known b a.words.now a.whole → a.atoms ≡ b.atoms → found ≡ tests.passed b a.entry.now a.line.now a.counts k
 
-two : (c : goal.Joined-entries_end) → Passes 2 c c.if-entries_end.if6
+two : (c : Joined-entries_end) → Passes 2 c c.if-entries_end.if6
 two c = λ b known atoms.
     let first = sym c.entries_end.ensures in
     and-joined c.if-entries_end.branch (λ w. (first ∙ w.0.taken, w.2 ∙ w.1.ensures)) (λ w. (first ∙ w.0.left, w.1 ∙ sym first))
 
-three : (c : goal.Joined-lines_end) → Passes 3 c c.if-lines_end.if7
+three : (c : Joined-lines_end) → Passes 3 c c.if-lines_end.if7
 three c = λ b known atoms.
     let first = sym (two FIXME{c Joined-entries_end} b known atoms) in
     and-joined c.if-lines_end.branch (λ w. (first ∙ w.0.taken, w.2 ∙ w.1.ensures b known atoms)) (λ w. (first ∙ w.0.left, w.1 ∙ sym first))
 
-four : (c : goal.Joined-entries_fit) → Passes 4 c c.if-entries_fit.if8
+four : (c : Joined-entries_fit) → Passes 4 c c.if-entries_fit.if8
 four c = λ b known atoms.
     let first = sym (three FIXME{c Joined-lines_end} b known atoms) in
     and-joined c.if-entries_fit.branch (λ w. (first ∙ w.0.taken, w.2 ∙ w.1.ensures b known atoms)) (λ w. (first ∙ w.0.left, w.1 ∙ sym first))
 
-five : (c : goal.Joined-lines_fit) → Passes 5 c c.if-lines_fit.if9
+five : (c : Joined-lines_fit) → Passes 5 c c.if-lines_fit.if9
 five c = λ b known atoms.
     let first = sym (four FIXME{c Joined-entries_fit} b known atoms) in
     and-joined c.if-lines_fit.branch (λ w. (first ∙ w.0.taken, w.2 ∙ w.1.ensures)) (λ w. (first ∙ w.0.left, w.1 ∙ sym first))
 
-six : (c : goal.Joined-entries_ordered) → Passes 6 c c.if-entries_ordered.if10
+six : (c : Joined-entries_ordered) → Passes 6 c c.if-entries_ordered.if10
 six c = λ b known atoms.
     let first = sym (five FIXME{c Joined-lines_fit} b known atoms) in
     and-joined c.if-entries_ordered.branch (λ w. (first ∙ w.0.taken, w.2 ∙ w.1.ensures)) (λ w. (first ∙ w.0.left, w.1 ∙ sym first))
 
-seven : (c : goal.Joined-lines_ordered) → Passes 7 c c.if-lines_ordered.if11
+seven : (c : Joined-lines_ordered) → Passes 7 c c.if-lines_ordered.if11
 seven c = λ b known atoms.
     let first = sym (six FIXME{c Joined-entries_ordered} b known atoms) in
     and-joined c.if-lines_ordered.branch (λ w. (first ∙ w.0.taken, w.2 ∙ w.1.ensures b _ known (tests.six_choices b _ _ _ (T_of_true (first ∙ w.0.taken))))) (λ w. (first ∙ w.0.left, w.1 ∙ sym first))

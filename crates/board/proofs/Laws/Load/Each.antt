@@ -30,6 +30,7 @@ module _ {ℓ} {A : Type ℓ} (p : List A → A → Bool) where
   -- each member passes after some
   pub each_member : (before xs : List A) → T (each_passes p before xs) → {x : A} → Memᴰ x xs → (ys : List A) × T (p ys x)
   unfolding each_passes
+  each_member before [] t m = elim m [ ]
   each_member before (y ∷ xs) t (Memᴰ.head e) = (before, rw e (and_left (p before y) _ t))
   each_member before (y ∷ xs) t (Memᴰ.tail m) = each_member (before ++ (y ∷ [])) xs (and_right (p before y) _ t) m
 

@@ -19,6 +19,7 @@ use Rattle.files.proofs.Laws.Passing.{first_pass, first_pass-more, first_pass-fa
 use Rattle.board.proofs.Laws.Load.{hypothesis_passes-of}
 use Rattle.board.proofs.Laws.Load.Hypotheses.{hypothesis_passes-zero, hypothesis_passes-weight, hypotheses_sizes}
 use Rattle.files.proofs.accepted.hypotheses_pass.Goals as goal
+use Rattle.files.proofs.accepted.hypotheses_pass.Goals.{After-hypothesis_refusal}
 
 pub loop-i-init : goal.loop-i-init
 unfolding each_passes
@@ -35,7 +36,7 @@ returns-then-w-gt-MOST_WEIGHT c =
     }
 
 -- the check of the hypothesis at i, as it stands in the arrays
-checked : (c : goal.After-hypothesis_refusal) → let a = c.args in
+checked : (c : After-hypothesis_refusal) → let a = c.args in
     let i = c.loop-i.i in
     c.hypothesis_refusal.result
     ≡ first_failing (field_checks (board_in a.atoms a.numbers.now a.atom.now a.weight.now i [])

@@ -21,9 +21,10 @@ use Rattle.board.proofs.Laws.Table.Fields.{is_table_fields}
 use Rattle.board.proofs.Laws.Table.Fields.Parts.{hypotheses_of, rule_of, sizes_parts}
 use Rattle.board.specs.declared.Table.{Table}
 use Rattle.files.proofs.accepted.is_table.Goals as goal
+use Rattle.files.proofs.accepted.is_table.Goals.{After-hypotheses_pass-passed, Else-not-sizes_stand, Joined-passed, Joined-rules_pass, Start}
 
 -- the arrays have their lengths
-sized : (c : goal.Start) → Sized c.args.t1
+sized : (c : Start) → Sized c.args.t1
 sized c = record { declaration = search rules; atom = search rules; weight = search rules; head = search rules; body = search rules }
 
 pub returns-then-not-sizes_stand : goal.returns-then-not-sizes_stand
@@ -35,11 +36,11 @@ returns-then-not-sizes_stand c =
 -- ---- the sizes
 
 -- the sizes stand
-sizes_right : (c : goal.Else-not-sizes_stand) → sizes_of c.args.t1 ≡ true
+sizes_right : (c : Else-not-sizes_stand) → sizes_of c.args.t1 ≡ true
 sizes_right c = sym c.sizes_stand.ensures ∙ not-false _ c.if-not-sizes_stand.false
 
 -- so there is room
-room : (c : goal.Else-not-sizes_stand) → let t = c.args.t1 in (t.atoms ≤ 128) × (t.hypotheses ≤ 128) × (t.rules ≤ 256)
+room : (c : Else-not-sizes_stand) → let t = c.args.t1 in (t.atoms ≤ 128) × (t.hypotheses ≤ 128) × (t.rules ≤ 256)
 room c = let p = sizes_parts c.args.t1 (T_of_true (sizes_right c)) in (omega (arith, p), omega (arith, p), omega (arith, p))
 
 pub hypotheses_pass-passed-requires : goal.hypotheses_pass-passed-requires
@@ -47,7 +48,7 @@ hypotheses_pass-passed-requires c = let r = room (goal.at.hypotheses_pass-passed
 
 -- ---- the hypotheses
 
-abbrev table : goal.After-hypotheses_pass-passed → Table
+abbrev table : After-hypotheses_pass-passed → Table
 table h = h.args.t1
 
 -- the tests up to the hypotheses', up to the rules', up to that of W
@@ -60,7 +61,7 @@ first_three t = the_first_two t && all (rule_of t) (below t.rules)
 abbrev first_four : Table → Bool
 first_four t = first_three t && leb (W (board_of t)) most_w
 
-two : (h : goal.After-hypotheses_pass-passed) → h.hypotheses_pass-passed.result.all ≡ the_first_two (table h)
+two : (h : After-hypotheses_pass-passed) → h.hypotheses_pass-passed.result.all ≡ the_first_two (table h)
 two h = and_then (sizes_right h.before.before.before.before) h.hypotheses_pass-passed.ensures.all
 
 pub rules_pass-requires : goal.rules_pass-requires
@@ -68,7 +69,7 @@ rules_pass-requires c = (room (goal.at.rules_pass-requires c).Else-not-sizes_sta
 
 -- ---- the rules
 
-three : (c : goal.Joined-passed) → c.if-passed.if3 ≡ first_three (table c.before.before)
+three : (c : Joined-passed) → c.if-passed.if3 ≡ first_three (table c.before.before)
 three c =
     let found = c.hypotheses_pass-passed.ensures in
     ⊎_elim {C = c.if-passed.if3 ≡ first_three (table c.before.before)}
@@ -77,7 +78,7 @@ three c =
 
 -- ---- W and the unused room
 
-four : (c : goal.Joined-rules_pass) → c.if-rules_pass.if4 ≡ first_four (table c.before.before.before)
+four : (c : Joined-rules_pass) → c.if-rules_pass.if4 ≡ first_four (table c.before.before.before)
 unfolding board_of
 four c =
     let t = table c.before.before.before in

@@ -18,12 +18,13 @@ use Rattle.board.specs.Table.{rules_in}
 use Rattle.files.specs.Private.Seen.{AtomsOf}
 use Rattle.board.proofs.Laws.Lent.{length-rules_in}
 use Rattle.files.proofs.accepted.rules_pass.Goals as goal
+use Rattle.files.proofs.accepted.rules_pass.Goals.{After-rule_refusal}
 
 pub loop-j-init : goal.loop-j-init
 loop-j-init c = (omega arith, λ hs m k h. absurd (omega arith))
 
 -- the check of the rule at j, as it stands in the arrays
-standing : (c : goal.After-rule_refusal) (hs : List Hypothesis)
+standing : (c : After-rule_refusal) (hs : List Hypothesis)
     → let a = c.args in
     let j = c.loop-j.j in
     AtomsOf hs a.hypotheses

@@ -7,13 +7,14 @@ use borrow.Author.Tests.{le-leb, lt-leb}
 use Rattle.sets.proofs.Laws.Tests.{and_then, and_else}
 use Rattle.board.specs.Private.Fields.{sizes_stand}
 use Rattle.files.proofs.accepted.sizes_stand.Goals as goal
+use Rattle.files.proofs.accepted.sizes_stand.Goals.{Joined-atoms-ge1, Joined-atoms-le128}
 
 -- the first two tests ..
-two : (c : goal.Joined-atoms-ge1) → let a = c.args in c.if-atoms-ge1.if2 ≡ (leb 1 a.atoms && leb a.atoms 128)
+two : (c : Joined-atoms-ge1) → let a = c.args in c.if-atoms-ge1.if2 ≡ (leb 1 a.atoms && leb a.atoms 128)
 two c = ⊎_elim (λ w. and_then (le-leb _ _ w.0.taken) w.1) (λ w. and_else _ (lt-leb _ _ w.0.left) w.1) c.if-atoms-ge1.branch
 
 -- .. and the third
-three : (c : goal.Joined-atoms-le128) → let a = c.args in c.if-atoms-le128.if3 ≡ (leb 1 a.atoms && leb a.atoms 128 && leb a.hypotheses 128)
+three : (c : Joined-atoms-le128) → let a = c.args in c.if-atoms-le128.if3 ≡ (leb 1 a.atoms && leb a.atoms 128 && leb a.hypotheses 128)
 three c =
     let before = two c.before in
     ⊎_elim (λ w. and_then (sym before ∙ w.0.taken) w.1) (λ w. and_else _ (sym before ∙ w.0.left) (w.1 ∙ before)) c.if-atoms-le128.branch

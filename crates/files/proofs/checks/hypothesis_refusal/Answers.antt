@@ -15,6 +15,7 @@ use Rattle.files.specs.Private.Seen.{SeenOf}
 use Rattle.board.proofs.Laws.Load.Checks.{follows_of}
 use Rattle.files.proofs.Laws.Seen.{atoms-member}
 use Rattle.files.proofs.checks.hypothesis_refusal.Goals as goal
+use Rattle.files.proofs.checks.hypothesis_refusal.Goals.{After-follows, After-member, After-size_of, Else-not-follows, Else-size_of-ge16}
 
 pub returns-then-atoms-wide : goal.returns-then-atoms-wide
 unfolding first_failing field_checks
@@ -33,7 +34,7 @@ follows-requires c = c.wide-number.ensures.upper_bound
 abbrev asked : ℕ → Board → Bool
 asked d b = eqb (suc d) (declarations_in b.hypotheses) || eqb d (declarations_in b.hypotheses)
 
-module _ (c : goal.After-follows) (b : Board) (e : b.atoms ≡ c.args.atoms)
+module _ (c : After-follows) (b : Board) (e : b.atoms ≡ c.args.atoms)
     (k : SeenOf b.hypotheses c.args.seen) where
   -- check 4 passed ..
   atom-low : leb b.atoms c.args.a ≡ false
@@ -54,14 +55,14 @@ unfolding first_failing field_checks
 returns-then-not-follows c b e k =
     simp (atom-low (goal.at.returns-then-not-follows c).After-follows b e k, number-low (goal.at.returns-then-not-follows c).After-follows b e k, sym (followed (goal.at.returns-then-not-follows c).After-follows b e k) ∙ not-true _ c.if-not-follows.true)
 
-module _ (c : goal.Else-not-follows) (b : Board) (e : b.atoms ≡ c.args.atoms)
+module _ (c : Else-not-follows) (b : Board) (e : b.atoms ≡ c.args.atoms)
     (k : SeenOf b.hypotheses c.args.seen) where
   -- check 5 passed
   number-follows : asked c.args.d b ≡ true
   number-follows = sym (followed c.before b e k) ∙ not-false _ c.if-not-follows.false
 
 -- whether the atom is a hypothesis already
-known : (c : goal.After-member) (b : Board) → SeenOf b.hypotheses c.args.seen
+known : (c : After-member) (b : Board) → SeenOf b.hypotheses c.args.seen
     → c.member.result ≡ is_hypothesis b c.args.a
 unfolding is_hypothesis
 known c b k = c.member.ensures ∙ atoms-member b.hypotheses _ k.atoms _
@@ -72,7 +73,7 @@ returns-then-member c b e k =
     simp (atom-low (goal.at.returns-then-member c).After-follows b e k, number-low (goal.at.returns-then-member c).After-follows b e k, number-follows (goal.at.returns-then-member c).Else-not-follows b e k, sym (known (goal.at.returns-then-member c).After-member b k) ∙ c.if-member.true)
 
 -- how many hypotheses its declaration has
-size : (c : goal.After-size_of) (b : Board) → b.atoms ≡ c.args.atoms
+size : (c : After-size_of) (b : Board) → b.atoms ≡ c.args.atoms
     → SeenOf b.hypotheses c.args.seen
     → c.FIXME_type_size.result ≡ length (declaration b.hypotheses c.args.d)
 size c b e k =
@@ -92,7 +93,7 @@ returns-then-size_of-ge16 c b e k =
     )
 
 -- the checks 4 to 6 passed
-module _ (c : goal.Else-size_of-ge16) (b : Board) (e : b.atoms ≡ c.args.atoms)
+module _ (c : Else-size_of-ge16) (b : Board) (e : b.atoms ≡ c.args.atoms)
     (k : SeenOf b.hypotheses c.args.seen) where
   to_six : (n : ℕ) → first_failing (record { number = 7; fails = eqb c.args.w 0 } ∷ []) ≡ n
       → let a = c.args in n ≡ first_failing (field_checks b (hypothesis a.d a.a a.w))

@@ -17,13 +17,14 @@ use Rattle.files.specs.Private.Seen.{AtomsOf}
 use Rattle.files.proofs.Laws.Places.{any-top}
 use Rattle.files.proofs.Laws.Seen.{atoms-member}
 use Rattle.files.proofs.checks.rule_refusal.Goals as goal
+use Rattle.files.proofs.checks.rule_refusal.Goals.{After-member, After-wide-2, Else-atoms-past, Else-atoms-wide, Else-not-ascend}
 
 pub returns-then-atoms-wide : goal.returns-then-atoms-wide
 unfolding first_failing field_checks
 returns-then-atoms-wide c b e h l = simp (le-leb b.atoms c.args.head (omega (arith, c.wide.ensures.value)))
 
 -- what the head's and the highest place's tests found of check 4 ..
-module _ (c : goal.Else-atoms-wide) (b : Board) (e : b.atoms ≡ c.args.atoms) where
+module _ (c : Else-atoms-wide) (b : Board) (e : b.atoms ≡ c.args.atoms) where
   head-low : leb b.atoms c.args.head ≡ false
   head-low = lt-leb b.atoms c.args.head (omega (arith, c.wide.ensures.value))
 
@@ -34,7 +35,7 @@ returns-then-atoms-past c b e h l =
     simp (head-low (goal.at.returns-then-atoms-past c).Else-atoms-wide b e, any-top b.atoms ps ∙ lt-ltb b.atoms (top_of ps) (omega (arith, c.top-past.ensures)))
 
 -- .. and that it passed
-places-low : (c : goal.Else-atoms-past) (b : Board) → b.atoms ≡ c.args.atoms
+places-low : (c : Else-atoms-past) (b : Board) → b.atoms ≡ c.args.atoms
     → any (leb b.atoms) (filled (low_bytes 8 c.args.places)) ≡ false
 places-low c b e =
     let ps = filled (low_bytes 8 c.args.places) in
@@ -46,12 +47,12 @@ returns-then-not-ascend c b e h l =
     simp (head-low (goal.at.returns-then-not-ascend c).Else-atoms-wide b e, places-low (goal.at.returns-then-not-ascend c).Else-atoms-past b e, sym c.ascend.ensures ∙ not-true _ c.if-not-ascend.true)
 
 -- check 9 passed
-ascending-right : (c : goal.Else-not-ascend) → let a = c.args in
+ascending-right : (c : Else-not-ascend) → let a = c.args in
     (filled_first (low_bytes 8 a.places) && ascending (filled (low_bytes 8 a.places))) ≡ true
 ascending-right c = sym c.ascend.ensures ∙ not-false _ c.if-not-ascend.false
 
 -- whether the head is a hypothesis
-known : (c : goal.After-member) (b : Board) → AtomsOf b.hypotheses c.args.hypotheses
+known : (c : After-member) (b : Board) → AtomsOf b.hypotheses c.args.hypotheses
     → c.member.result ≡ is_hypothesis b c.args.head
 unfolding is_hypothesis
 known c b h = c.member.ensures ∙ atoms-member b.hypotheses _ h _
@@ -62,7 +63,7 @@ returns-then-member c b e h l =
     simp (head-low (goal.at.returns-then-member c).Else-atoms-wide b e, places-low (goal.at.returns-then-member c).Else-atoms-past b e, ascending-right (goal.at.returns-then-member c).Else-not-ascend, sym (known (goal.at.returns-then-member c).After-member b h) ∙ c.if-member.true)
 
 -- the checks 4 to 10 passed, so 11 and 12 are left
-left_over : (c : goal.After-wide-2) (b : Board) → b.atoms ≡ c.args.atoms
+left_over : (c : After-wide-2) (b : Board) → b.atoms ≡ c.args.atoms
     → AtomsOf b.hypotheses c.args.hypotheses
     → let a = c.args in (n : ℕ)
     → n ≡ first_failing (record { number = 11; fails = any (leb a.head) (filled (low_bytes 8 a.places)) } ∷ record { number = 12; fails = leb 256 (length b.rules) } ∷ [])
@@ -72,7 +73,7 @@ left_over c b e h n rest =
     simp (head-low c.before.before.before.before.before.before b e, places-low c.before.before.before.before.before b e, ascending-right c.before.before.before, sym (known c.before.before b h) ∙ c.if-member.false) rest
 
 -- check 11, by the highest place
-under : (c : goal.After-wide-2) → let a = c.args in
+under : (c : After-wide-2) → let a = c.args in
     any (leb a.head) (filled (low_bytes 8 a.places)) ≡ ltb c.wide-2.result c.top-past.result
 under c =
     let a = c.args in

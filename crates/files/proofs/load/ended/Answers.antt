@@ -13,9 +13,10 @@ use Rattle.files.specs.Private.Taking.{ending}
 use Rattle.board.proofs.Laws.EntryPoints.{refuses_loads, accepts_loads}
 use Rattle.board.proofs.Laws.Table.Arrays.{board_in-table_of}
 use Rattle.files.proofs.load.ended.Goals as goal
+use Rattle.files.proofs.load.ended.Goals.{After-whole_weight}
 
 -- W, as the code sees it
-weight : (c : goal.After-whole_weight) (b : Board) → c.args.t1 ≡ table_of b → c.whole_weight.result ≡ min (W b) (most_w + 1)
+weight : (c : After-whole_weight) (b : Board) → c.args.t1 ≡ table_of b → c.whole_weight.result ≡ min (W b) (most_w + 1)
 weight c b e =
     let t = c.args.t1 in
     let whole : min t.hypotheses 128 ≡ t.hypotheses = omega arith in

@@ -28,9 +28,10 @@ use Rattle.board.proofs.Laws.EntryPoints.{refuses_loads}
 use Rattle.board.specs.declared.Table.{Table}
 use Rattle.files.specs.declared.checks.Seen.{Seen}
 use Rattle.files.proofs.load.load.Goals as goal
+use Rattle.files.proofs.load.load.Goals.{After-passed_record-answer, At-loop-found, In-At, In-Hypothesis, In-Rule}
 
 -- the board read so far, by what the table has of it
-module _ (l : goal.At-loop-found) where
+module _ (l : At-loop-found) where
   atoms-same : l.loop-found.invariant.board.atoms ≡ l.loop-found.t.atoms
   unfolding table_of
   atoms-same = sym (ap (λ (u : Table). u.atoms) l.loop-found.invariant.table)
@@ -46,7 +47,7 @@ pub loop-found-init : goal.loop-found-init
 loop-found-init c = rw c.zero_table-t.ensures (progress_start _ _ c.nothing_seen-seen.ensures)
 
 -- what was asked of the record, said of the board
-passed : (r : goal.After-passed_record-answer)
+passed : (r : After-passed_record-answer)
     → read_means r.passed_record-answer.result ≡ passed_record r.args.file.now r.loop-found.at r.loop-found.invariant.board
 passed r = r.passed_record-answer.ensures _ (atoms-same FIXME{r At-loop-found}) (rules-same FIXME{r At-loop-found}) r.loop-found.invariant.known
 
@@ -60,7 +61,7 @@ returns-in_default c =
 
 -- ---- a record that passes
 
-module _ (k : goal.In-At) where
+module _ (k : In-At) where
 
   abbrev read : Found
   read = let g = k.answer-1.given in record { found = record_means g.0.0; next = g.0.1.0 }
@@ -84,7 +85,7 @@ module _ (k : goal.In-At) where
     again t' seen' table known = goes_on k.loop-found.invariant read passes (bytes FIXME{k At-loop-found}) (rw same unfinished) t' seen' (rw same table) (rw same known)
 
 -- a hypothesis
-module _ (c : goal.In-Hypothesis) where
+module _ (c : In-Hypothesis) where
   abbrev d : ℕ
   d = c.in-Hypothesis.d
 
@@ -123,7 +124,7 @@ pub seen_with-seen-requires : goal.seen_with-seen-requires
 seen_with-seen-requires c = room-last c.loop-found.invariant
 
 -- a rule
-module _ (c : goal.In-Rule) where
+module _ (c : In-Rule) where
   abbrev head : ℕ
   head = c.in-Rule.head
 

@@ -10,9 +10,10 @@ use Rattle.sets.proofs.Laws.Tests.{T_of_true, and_then, and_else, and_left}
 use Rattle.board.specs.File.{known_kind}
 use Rattle.board.specs.Load.{misplaced_at}
 use Rattle.files.proofs.load.misplaced_at.Goals as goal
+use Rattle.files.proofs.load.misplaced_at.Goals.{Joined-at-file}
 
 -- the first two tests
-two : (c : goal.Joined-at-file) → let a = c.args in c.if-at-file.if2 ≡ (ltb a.at (length a.file.now) && known_kind (get_or a.file.now a.at 0))
+two : (c : Joined-at-file) → let a = c.args in c.if-at-file.if2 ≡ (ltb a.at (length a.file.now) && known_kind (get_or a.file.now a.at 0))
 two c = ⊎_elim (λ w. and_then (lt-ltb _ _ w.0.taken) (w.3 ∙ w.2.ensures)) (λ w. and_else _ (le-ltb _ _ w.0.left) w.1) c.if-at-file.branch
 
 pub bounds-file-at-then-known_kind : goal.bounds-file-at-then-known_kind

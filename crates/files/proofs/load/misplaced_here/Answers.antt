@@ -11,6 +11,7 @@ use Rattle.sets.specs.Lists.{is_empty}
 use Rattle.board.specs.Board.{Board, Rule}
 use Rattle.board.specs.Load.{misplaced}
 use Rattle.files.proofs.load.misplaced_here.Goals as goal
+use Rattle.files.proofs.load.misplaced_here.Goals.{Else-atoms-eq0}
 
 -- some rule
 some_rule : (rs : List Rule) (n : ℕ) → length rs ≡ n → not (is_empty rs) ≡ ltb 0 n
@@ -22,7 +23,7 @@ pub returns-then-atoms-eq0 : goal.returns-then-atoms-eq0
 unfolding misplaced
 returns-then-atoms-eq0 c b e l = rw (eq-eqb b.atoms 0 (e ∙ c.if-atoms-eq0.true))
 
-module _ (c : goal.Else-atoms-eq0) (b : Board) (e : b.atoms ≡ c.args.atoms) where
+module _ (c : Else-atoms-eq0) (b : Board) (e : b.atoms ≡ c.args.atoms) where
   -- the count has been read
   counted : eqb b.atoms 0 ≡ false
   counted = ne_eqb b.atoms 0 (λ z. c.if-atoms-eq0.false (sym e ∙ z))

@@ -10,13 +10,14 @@ use Rattle.board.specs.Load.{misplaced_at}
 use Rattle.board.specs.EntryPoints.{record_means, read_means}
 use Rattle.files.proofs.Laws.Passed.{passed-misplaced, passed_unread, passed_failing, passed-passing}
 use Rattle.files.proofs.load.passed_record.Goals as goal
+use Rattle.files.proofs.load.passed_record.Goals.{After-field_refusal-number, After-read_record-answer}
 
 pub returns-then-misplaced_at : goal.returns-then-misplaced_at
 unfolding read_means
 returns-then-misplaced_at c b e l k = sym (passed-misplaced _ _ b (sym (c.misplaced_at.ensures b e l) ∙ c.if-misplaced_at.true))
 
 -- no record of a known kind is misplaced here
-placed : (r : goal.After-read_record-answer) (b : Board) → let a = r.args in b.atoms ≡ a.atoms → length b.rules ≡ a.rules
+placed : (r : After-read_record-answer) (b : Board) → let a = r.args in b.atoms ≡ a.atoms → length b.rules ≡ a.rules
     → misplaced_at a.file.now a.at b ≡ false
 placed r b e l = sym (r.misplaced_at.ensures b e l) ∙ r.if-misplaced_at.false
 
@@ -27,7 +28,7 @@ returns-in_default c b e l k =
     told ∙ sym (passed_unread _ _ b _ _ (placed (goal.at.returns-in_default c).After-read_record-answer b e l) (sym c.read_record-answer.ensures ∙ told))
 
 -- the record that was read
-module _ (f : goal.After-field_refusal-number) where
+module _ (f : After-field_refusal-number) where
 
   abbrev read : Found
   read = let g = f.answer-1.given in record { found = record_means g.0.0; next = g.0.1.0 }

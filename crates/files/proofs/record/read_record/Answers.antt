@@ -9,6 +9,7 @@ use Rattle.board.specs.EntryPoints.{read_means}
 use borrow.Author.Rules.{rules}
 use borrow.Author.Tests.{not-true, not-false}
 use Rattle.files.proofs.record.read_record.Goals as goal
+use Rattle.files.proofs.record.read_record.Goals.{Else-not-known_kind}
 
 pub returns-then-len-at : goal.returns-then-len-at
 unfolding read_means
@@ -21,7 +22,7 @@ returns-then-not-known_kind c =
     sym (read_unknown a.file.now a.at (omega arith) (sym c.known_kind.ensures ∙ not-true _ c.if-not-known_kind.true))
 
 -- a kind that was not refused is known
-kind_known : (c : goal.Else-not-known_kind) → let a = c.args in known_kind (get_or a.file.now a.at 0) ≡ true
+kind_known : (c : Else-not-known_kind) → let a = c.args in known_kind (get_or a.file.now a.at 0) ≡ true
 kind_known c = sym c.known_kind.ensures ∙ not-false _ c.if-not-known_kind.false
 
 pub overflow_add-next-2 : goal.overflow_add-next-2

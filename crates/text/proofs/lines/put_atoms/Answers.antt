@@ -9,9 +9,10 @@ use Rattle.sets.specs.Masks.{mask_means}
 use Rattle.text.specs.Private.Putting.{PutAs, texts_below, atom_text}
 use Rattle.text.proofs.Laws.Texts.{texts_none, texts_next, texts_put, atoms_texts}
 use Rattle.text.proofs.lines.put_atoms.Goals as goal
+use Rattle.text.proofs.lines.put_atoms.Goals.{Start}
 
 -- the text of an atom
-abbrev of : goal.Start → ℕ → List ℕ
+abbrev of : Start → ℕ → List ℕ
 of s = atom_text (mask_means s.args.set)
 
 pub put_atom-end-requires : goal.put_atom-end-requires

@@ -13,9 +13,10 @@ use Rattle.search.specs.declared.order.Entry.{Entry as EntryCode}
 use Rattle.text.specs.Private.Putting.{PutAs, lines_text}
 use Rattle.text.proofs.Laws.Texts.{texts_none, texts_next, texts_put}
 use Rattle.text.proofs.lines.put_lines.Goals as goal
+use Rattle.text.proofs.lines.put_lines.Goals.{Start}
 
 -- the text of a line
-abbrev of : goal.Start → ℕ → List ℕ
+abbrev of : Start → ℕ → List ℕ
 of s i = line_text (line_in s.args.line.now i)
 
 -- .. as it was read
