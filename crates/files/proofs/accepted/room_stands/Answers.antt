@@ -6,7 +6,7 @@ use Rattle.files.proofs.accepted.room_stands.Goals as goal
 
 pub returns-then-zero_bytes-3 : goal.returns-then-zero_bytes-3
 unfolding room_stands
-returns-then-zero_bytes-3 c = ?
+returns-then-zero_bytes-3 c = grind (arith, common_steps)
 
 pub returns-else-zero_bytes-3 : goal.returns-else-zero_bytes-3
 unfolding room_stands

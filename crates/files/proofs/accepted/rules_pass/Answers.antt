@@ -60,7 +60,7 @@ pub overflow_mul-j : goal.overflow_mul-j
 overflow_mul-j c = omega arith
 
 pub eight_bytes-requires : goal.eight_bytes-requires
-eight_bytes-requires c = omega (arith, c.eight_bytes-arg-1.given.0)
+eight_bytes-requires c = omega arith
 
 pub overflow_add-j : goal.overflow_add-j
 overflow_add-j c = omega arith

@@ -6,7 +6,7 @@ use Rattle.files.proofs.accepted.sizes_stand.Goals as goal
 
 pub returns-then-hypotheses-le128 : goal.returns-then-hypotheses-le128
 unfolding sizes_stand
-returns-then-hypotheses-le128 c = ?
+returns-then-hypotheses-le128 c = grind (arith, common_steps)
 
 pub returns-else-hypotheses-le128 : goal.returns-else-hypotheses-le128
 unfolding sizes_stand
