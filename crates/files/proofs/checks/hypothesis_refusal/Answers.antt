@@ -16,14 +16,11 @@ use Rattle.files.proofs.checks.hypothesis_refusal.Goals.{After-follows, After-me
 
 pub returns-then-atoms-wide : goal.returns-then-atoms-wide
 unfolding first_failing field_checks
-returns-then-atoms-wide c b e k = let w = c.wide.ensures.value in grind (arith, common_steps)
+returns-then-atoms-wide c b e k = grind (arith, common_steps)
 
 pub returns-then-number-gt31 : goal.returns-then-number-gt31
 unfolding first_failing field_checks
-returns-then-number-gt31 c b e k =
-    let w = c.wide.ensures.value in
-    let n = c.wide-number.ensures.value in
-    grind (arith, common_steps)
+returns-then-number-gt31 c b e k = grind (arith, common_steps)
 
 -- what is asked of a declaration's number: it is the last one or the next
 abbrev asked : ℕ → Board → Bool
@@ -36,8 +33,6 @@ followed c b k = rw (c.wide-number.ensures.value, k.declarations) at c.follows.e
 pub returns-then-not-follows : goal.returns-then-not-follows
 unfolding first_failing field_checks
 returns-then-not-follows c b e k =
-    let w = c.wide.ensures.value in
-    let n = c.wide-number.ensures.value in
     let f = followed (goal.at.returns-then-not-follows c).After-follows b k in
     grind (arith, common_steps)
 
@@ -49,8 +44,6 @@ known c b k = c.member.ensures ∙ atoms-member b.hypotheses _ k.atoms _
 pub returns-then-member : goal.returns-then-member
 unfolding first_failing field_checks
 returns-then-member c b e k =
-    let w = c.wide.ensures.value in
-    let n = c.wide-number.ensures.value in
     let f = followed (goal.at.returns-then-member c).After-follows b k in
     let m = known (goal.at.returns-then-member c).After-member b k in
     grind (arith, common_steps)
@@ -65,8 +58,6 @@ size c b k f =
 pub returns-then-size_of-ge16 : goal.returns-then-size_of-ge16
 unfolding first_failing field_checks
 returns-then-size_of-ge16 c b e k =
-    let w = c.wide.ensures.value in
-    let n = c.wide-number.ensures.value in
     let f = sym (followed (goal.at.returns-then-size_of-ge16 c).After-follows b k) ∙ c.if-not-follows.false in
     let m = known (goal.at.returns-then-size_of-ge16 c).After-member b k in
     let s = size (goal.at.returns-then-size_of-ge16 c).After-size_of b k f in
@@ -75,8 +66,6 @@ returns-then-size_of-ge16 c b e k =
 pub returns-then-w-eq0 : goal.returns-then-w-eq0
 unfolding first_failing field_checks
 returns-then-w-eq0 c b e k =
-    let w = c.wide.ensures.value in
-    let n = c.wide-number.ensures.value in
     let f = sym (followed (goal.at.returns-then-w-eq0 c).After-follows b k) ∙ c.if-not-follows.false in
     let m = known (goal.at.returns-then-w-eq0 c).After-member b k in
     let s = size (goal.at.returns-then-w-eq0 c).After-size_of b k f in
@@ -85,8 +74,6 @@ returns-then-w-eq0 c b e k =
 pub returns : goal.returns
 unfolding first_failing field_checks
 returns c b e k =
-    let w = c.wide.ensures.value in
-    let n = c.wide-number.ensures.value in
     let f = sym (followed (goal.at.returns c).After-follows b k) ∙ c.if-not-follows.false in
     let m = known (goal.at.returns c).After-member b k in
     let s = size (goal.at.returns c).After-size_of b k f in

@@ -13,19 +13,17 @@ use Rattle.files.proofs.checks.rule_refusal.Goals.{After-member}
 
 pub returns-then-atoms-wide : goal.returns-then-atoms-wide
 unfolding first_failing field_checks
-returns-then-atoms-wide c b e h l = let w = c.wide.ensures.value in grind (arith, common_steps)
+returns-then-atoms-wide c b e h l = grind (arith, common_steps)
 
 pub returns-then-atoms-past : goal.returns-then-atoms-past
 unfolding first_failing field_checks
 returns-then-atoms-past c b e h l =
-    let w = c.wide.ensures.value in
     let p = any-top b.atoms (filled (low_bytes 8 c.args.places)) in
     grind (arith, common_steps)
 
 pub returns-then-not-ascend : goal.returns-then-not-ascend
 unfolding first_failing field_checks
 returns-then-not-ascend c b e h l =
-    let w = c.wide.ensures.value in
     let p = any-top b.atoms (filled (low_bytes 8 c.args.places)) in
     grind (arith, common_steps)
 
@@ -37,7 +35,6 @@ known c b h = c.member.ensures ∙ atoms-member b.hypotheses _ h _
 pub returns-then-member : goal.returns-then-member
 unfolding first_failing field_checks
 returns-then-member c b e h l =
-    let w = c.wide.ensures.value in
     let p = any-top b.atoms (filled (low_bytes 8 c.args.places)) in
     let m = known (goal.at.returns-then-member c).After-member b h in
     grind (arith, common_steps)
@@ -45,8 +42,6 @@ returns-then-member c b e h l =
 pub returns-then-wide-past : goal.returns-then-wide-past
 unfolding first_failing field_checks
 returns-then-wide-past c b e h l =
-    let w = c.wide.ensures.value in
-    let w2 = c.wide-2.ensures.value in
     let p = any-top b.atoms (filled (low_bytes 8 c.args.places)) in
     let q = any-top c.args.head (filled (low_bytes 8 c.args.places)) in
     let m = known (goal.at.returns-then-wide-past c).After-member b h in
@@ -55,8 +50,6 @@ returns-then-wide-past c b e h l =
 pub returns-then-rules-ge256 : goal.returns-then-rules-ge256
 unfolding first_failing field_checks
 returns-then-rules-ge256 c b e h l =
-    let w = c.wide.ensures.value in
-    let w2 = c.wide-2.ensures.value in
     let p = any-top b.atoms (filled (low_bytes 8 c.args.places)) in
     let q = any-top c.args.head (filled (low_bytes 8 c.args.places)) in
     let m = known (goal.at.returns-then-rules-ge256 c).After-member b h in
@@ -65,8 +58,6 @@ returns-then-rules-ge256 c b e h l =
 pub returns : goal.returns
 unfolding first_failing field_checks
 returns c b e h l =
-    let w = c.wide.ensures.value in
-    let w2 = c.wide-2.ensures.value in
     let p = any-top b.atoms (filled (low_bytes 8 c.args.places)) in
     let q = any-top c.args.head (filled (low_bytes 8 c.args.places)) in
     let m = known (goal.at.returns c).After-member b h in

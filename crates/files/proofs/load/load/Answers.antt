@@ -31,17 +31,14 @@ use Rattle.files.proofs.load.load.Goals as goal
 use Rattle.files.proofs.load.load.Goals.{After-passed_record-answer, At-loop-found, In-At, In-Hypothesis, In-Rule}
 
 -- the board read so far, by what the table has of it
-module _ (l : At-loop-found) where
-  atoms-same : l.loop-found.invariant.board.atoms ≡ l.loop-found.t.atoms
+module _ {file : List ℕ} {t : Table} {seen : Seen} {at : ℕ} (p : Progress file t seen at) where
+  atoms-same : p.board.atoms ≡ t.atoms
   unfolding table_of
-  atoms-same = sym (ap (λ (u : Table). u.atoms) l.loop-found.invariant.table)
+  atoms-same = sym (ap (λ (u : Table). u.atoms) p.table)
 
-  rules-same : length l.loop-found.invariant.board.rules ≡ l.loop-found.t.rules
+  rules-same : length p.board.rules ≡ t.rules
   unfolding table_of
-  rules-same = sym (ap (λ (u : Table). u.rules) l.loop-found.invariant.table)
-
-  bytes : T (are_bytes l.args.file.now)
-  bytes = are_bytes_of l.args.file.now (λ i. omega (arith, l.type_inv.file i))
+  rules-same = sym (ap (λ (u : Table). u.rules) p.table)
 
 pub loop-found-init : goal.loop-found-init
 loop-found-init c = rw c.zero_table-t.ensures (progress_start _ _ c.nothing_seen-seen.ensures)
@@ -49,7 +46,7 @@ loop-found-init c = rw c.zero_table-t.ensures (progress_start _ _ c.nothing_seen
 -- what was asked of the record, said of the board
 passed : (r : After-passed_record-answer)
     → read_means r.passed_record-answer.result ≡ passed_record r.args.file.now r.loop-found.at r.loop-found.invariant.board
-passed r = r.passed_record-answer.ensures _ (atoms-same FIXME{r At-loop-found}) (rules-same FIXME{r At-loop-found}) r.loop-found.invariant.known
+passed r = r.passed_record-answer.ensures _ (atoms-same r.loop-found.invariant) (rules-same r.loop-found.invariant) r.loop-found.invariant.known
 
 pub returns-in_default : goal.returns-in_default
 unfolding read_means number_in place_in

@@ -31,7 +31,7 @@ returns-in_default c b e l k =
 module _ (f : After-field_refusal-number) where
 
   abbrev read : Found
-  read = let g = f.answer-1.given in record { found = record_means g.0.0; next = g.0.1.0 }
+  read = record { found = record_means f.in-At.found; next = f.in-At.field-1 }
 
   read_it : read_record f.args.file.now f.args.at ≡ accepted read
   unfolding read_means
