@@ -4,9 +4,6 @@ use Rattle.std.proofs.lemmas.Grind.{common_steps}
 use Rattle.board.specs.Load.{misplaced_at}
 use Rattle.files.proofs.load.misplaced_at.Goals as goal
 
-pub bounds-file-at-then-known_kind : goal.bounds-file-at-then-known_kind
-bounds-file-at-then-known_kind c = grind (arith, common_steps)
-
 pub returns-then-known_kind : goal.returns-then-known_kind
 unfolding misplaced_at
 returns-then-known_kind c b e l =

@@ -1,5 +1,4 @@
 -- `passed_record` meets its contract: its tests, in their order, are those of `passed_record`. Assumes nothing.
-use borrow.Author.Rules.{rules}
 use mathlib.Core.Path.{◌≡◌, sym, ap, ◌∙◌}
 use mathlib.Core.Bool.{false}
 use lib.ListN.{length}

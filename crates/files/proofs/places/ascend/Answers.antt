@@ -2,12 +2,9 @@
 use native.Mathlib.Omega.{arith}
 use native.Mathlib.Numerals.{add-one}
 use mathlib.Core.Path.{◌≡◌, ◌∙◌}
-use mathlib.Core.Bool.{◌&&◌}
-use Rattle.sets.specs.Lists.{ascending}
 use Rattle.board.specs.Sizes.{most_body}
 use Rattle.board.specs.File.{low_bytes}
 use Rattle.board.proofs.Laws.File.{low_bytes_pop}
-use Rattle.board.specs.Load.{filled, filled_first}
 use Rattle.files.proofs.Laws.Places.{climbs, climbs_means, climbs-low, climbs_on, climbs_empty}
 use Rattle.files.proofs.places.ascend.Goals as goal
 use Rattle.files.proofs.places.ascend.Goals.{then-place-ne255+else-place-least, else-place-ne255}
@@ -34,12 +31,3 @@ unfolding low_bytes climbs
 returns c =
     let none : c.loop-left.left ≡ 0 = omega arith in
     rw (c.loop-left.invariant, none)
-
-pub overflow_add-least : goal.overflow_add-least
-overflow_add-least c = omega arith
-
-pub overflow_sub-left : goal.overflow_sub-left
-overflow_sub-left c = omega arith
-
-pub loop-left-smaller : goal.loop-left-smaller
-loop-left-smaller c = omega arith

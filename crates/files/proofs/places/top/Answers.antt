@@ -1,10 +1,8 @@
 -- `top` meets its contract: the highest place passed and those left together are the whole. Assumes nothing.
 use native.Mathlib.Omega.{arith}
 use native.Mathlib.Numerals.{add-one}
-use Prim.Native.Nat.{◌≤◌, max}
 use mathlib.Core.Path.{◌≡◌, sym, ◌∙◌}
 use Rattle.sets.specs.Lists.{keep}
-use Rattle.board.specs.Sizes.{most_body}
 use Rattle.board.specs.File.{low_bytes}
 use Rattle.board.proofs.Laws.File.{low_bytes_pop}
 use Rattle.board.specs.Load.{filled}
@@ -30,12 +28,3 @@ returns c =
     let none : c.loop-left.left ≡ 0 = omega arith in
     let whole = rw none at c.loop-left.invariant.1 in
     omega arith
-
-pub overflow_add-place : goal.overflow_add-place
-overflow_add-place c = omega arith
-
-pub overflow_sub-left : goal.overflow_sub-left
-overflow_sub-left c = omega arith
-
-pub loop-left-smaller : goal.loop-left-smaller
-loop-left-smaller c = omega arith

@@ -4,7 +4,6 @@ use Rattle.std.proofs.lemmas.Bool.Decides.{nat_tests}
 use Rattle.board.specs.File.{record_of}
 use Rattle.board.proofs.Laws.File.{body_bytes-count, body_bytes-hypothesis, body_bytes-rule}
 use Rattle.board.specs.EntryPoints.{record_means}
-use borrow.Author.Rules.{rules}
 use Rattle.files.proofs.record.read_body.Goals as goal
 
 pub returns-in-1 : goal.returns-in-1

@@ -6,7 +6,6 @@ use lib.ListN.{get_or}
 use Rattle.board.specs.File.{known_kind, next_place}
 use Rattle.board.proofs.Laws.File.{body_bytes-le, read_past, read_unknown, read_short, read_whole}
 use Rattle.board.specs.EntryPoints.{read_means}
-use borrow.Author.Rules.{rules}
 use Rattle.files.proofs.record.read_record.Goals as goal
 use Rattle.files.proofs.record.read_record.Goals.{Else-not-known_kind}
 
