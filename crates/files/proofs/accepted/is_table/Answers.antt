@@ -63,8 +63,9 @@ three c =
     let found = c.hypotheses_pass-passed.ensures in
     let two = and_then (sym c.sizes_stand.ensures ∙ c.if-not-sizes_stand.false) found.all in
     elim c.if-passed.branch [
-        then-passed w ↦ and_then (sym two ∙ w.if-passed.true) (w.value-is ∙ w.rules_pass.ensures (hypotheses_of t) (found.seen w.if-passed.true).atoms)
-        | else-passed w ↦ and_else _ (sym two ∙ w.if-passed.false) (w.value-is ∙ two) ]
+      | then-passed w ↦ and_then (sym two ∙ w.if-passed.true) (w.value-is ∙ w.rules_pass.ensures (hypotheses_of t) (found.seen w.if-passed.true).atoms)
+      | else-passed w ↦ and_else _ (sym two ∙ w.if-passed.false) (w.value-is ∙ two)
+    ]
 
 four : (c : Joined-rules_pass) → let t = c.args.t in c.if-passed.value ≡ first_three t → t.hypotheses ≤ 128 → c.if-rules_pass.value ≡ first_four t
 unfolding board_of
@@ -72,9 +73,10 @@ four c before l =
     let t = c.args.t in
     let whole : min t.hypotheses 128 ≡ t.hypotheses = omega arith in
     elim c.if-rules_pass.branch [
-        then-rules_pass w ↦ and_then (sym before ∙ w.if-rules_pass.true)
-            (w.value-is ∙ ap (λ (v : ℕ). leb v most_w) (rw whole at (w.whole_weight.ensures t.atoms t.atom (rules_in t.head t.body t.rules))) ∙ capped_within most_w (W (board_of t)))
-        | else-rules_pass w ↦ and_else _ (sym before ∙ w.if-rules_pass.false) (w.value-is ∙ before) ]
+      | then-rules_pass w ↦ and_then (sym before ∙ w.if-rules_pass.true)
+          (w.value-is ∙ ap (λ (v : ℕ). leb v most_w) (rw whole at (w.whole_weight.ensures t.atoms t.atom (rules_in t.head t.body t.rules))) ∙ capped_within most_w (W (board_of t)))
+      | else-rules_pass w ↦ and_else _ (sym before ∙ w.if-rules_pass.false) (w.value-is ∙ before)
+    ]
 
 pub returns-then-whole_weight-le-MOST_W : goal.returns-then-whole_weight-le-MOST_W
 unfolding fields_stand

@@ -1,5 +1,4 @@
 -- `ended` meets its contract: W, cut off above 10^15, passes 10^15 exactly if W does. Assumes nothing.
-use borrow.Author.Rules.{rules}
 use native.Mathlib.Omega.{arith}
 use Prim.Native.Nat.{◌+◌, min}
 use mathlib.Core.Path.{◌≡◌}

@@ -1,6 +1,5 @@
 -- `load` meets its contract. The loop's invariant is `Progress`: the board read so far stands in the table, what is known of its hypotheses is, and what
 -- is left to load is what `load_from` gives from the next place on. The measure is what is left of the file. Assumes nothing.
-use borrow.Author.Rules.{rules}
 use native.Mathlib.Omega.{arith}
 use mathlib.Core.Path.{◌≡◌, refl, sym, ap, ◌∙◌}
 use mathlib.Core.Bool.{false}
@@ -22,7 +21,7 @@ use Rattle.board.specs.Table.{table_of}
 use Rattle.board.proofs.Laws.Table.Taking.{table_of-count, table_of-hypothesis, table_of-rule}
 use Rattle.board.proofs.Laws.Load.Passes.{so_far}
 use Rattle.files.specs.Private.Seen.{SeenOf}
-use Rattle.files.specs.Private.Taking.{number_in, place_in, passed_record}
+use Rattle.files.specs.Private.Taking.{number_in, place_in}
 use Rattle.board.specs.EntryPoints.{record_means, read_means}
 use Rattle.board.proofs.Laws.EntryPoints.{refuses_loads}
 use Rattle.board.specs.declared.Table.{Table}

@@ -23,8 +23,9 @@ loop-left-preserved c =
     l.invariant
     ∙ rw (low_bytes_pop l.left l.rest (omega arith), add-one)
     (elim c.if-place-ne255.branch [
-        then-place-ne255+else-place-least w ↦ climbs_on _ _ _ w.if-place-ne255.true w.if-place-least.false
-        | else-place-ne255 w ↦ climbs_empty _ _ _ w.if-place-ne255.false ])
+      | then-place-ne255+else-place-least w ↦ climbs_on _ _ _ w.if-place-ne255.true w.if-place-least.false
+      | else-place-ne255 w ↦ climbs_empty _ _ _ w.if-place-ne255.false
+    ])
 
 pub returns : goal.returns
 unfolding low_bytes climbs
