@@ -58,23 +58,26 @@ size c b k f =
 pub returns-then-size_of-ge16 : goal.returns-then-size_of-ge16
 unfolding first_failing field_checks
 returns-then-size_of-ge16 c b e k =
-    let f = sym (followed (goal.at.returns-then-size_of-ge16 c).After-follows b k) ∙ c.if-not-follows.false in
-    let m = known (goal.at.returns-then-size_of-ge16 c).After-member b k in
-    let s = size (goal.at.returns-then-size_of-ge16 c).After-size_of b k f in
+    let at = goal.at.returns-then-size_of-ge16 c in
+    let f = sym (followed at.After-follows b k) ∙ c.if-not-follows.false in
+    let m = known at.After-member b k in
+    let s = size at.After-size_of b k f in
     grind (arith, common_steps)
 
 pub returns-then-w-eq0 : goal.returns-then-w-eq0
 unfolding first_failing field_checks
 returns-then-w-eq0 c b e k =
-    let f = sym (followed (goal.at.returns-then-w-eq0 c).After-follows b k) ∙ c.if-not-follows.false in
-    let m = known (goal.at.returns-then-w-eq0 c).After-member b k in
-    let s = size (goal.at.returns-then-w-eq0 c).After-size_of b k f in
+    let at = goal.at.returns-then-w-eq0 c in
+    let f = sym (followed at.After-follows b k) ∙ c.if-not-follows.false in
+    let m = known at.After-member b k in
+    let s = size at.After-size_of b k f in
     grind (arith, common_steps)
 
 pub returns : goal.returns
 unfolding first_failing field_checks
 returns c b e k =
-    let f = sym (followed (goal.at.returns c).After-follows b k) ∙ c.if-not-follows.false in
-    let m = known (goal.at.returns c).After-member b k in
-    let s = size (goal.at.returns c).After-size_of b k f in
+    let at = goal.at.returns c in
+    let f = sym (followed at.After-follows b k) ∙ c.if-not-follows.false in
+    let m = known at.After-member b k in
+    let s = size at.After-size_of b k f in
     grind (arith, common_steps)

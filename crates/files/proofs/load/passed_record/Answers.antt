@@ -39,9 +39,13 @@ module _ (f : After-field_refusal-number) where
 pub returns-then-number-ne0 : goal.returns-then-number-ne0
 unfolding read_means
 returns-then-number-ne0 c b e l k =
-    sym (passed_failing _ _ b (read (goal.at.returns-then-number-ne0 c).After-field_refusal-number) (placed (goal.at.returns-then-number-ne0 c).After-read_record-answer b e l) (read_it (goal.at.returns-then-number-ne0 c).After-field_refusal-number) _ (sym (c.field_refusal-number.ensures b e l k)) c.if-number-ne0.true)
+    let at = goal.at.returns-then-number-ne0 c in
+    let f = at.After-field_refusal-number in
+    sym (passed_failing _ _ b (read f) (placed at.After-read_record-answer b e l) (read_it f) _ (sym (c.field_refusal-number.ensures b e l k)) c.if-number-ne0.true)
 
 pub returns : goal.returns
 unfolding read_means
 returns c b e l k =
-    sym (passed-passing _ _ b (read (goal.at.returns c).After-field_refusal-number) (placed (goal.at.returns c).After-read_record-answer b e l) (read_it (goal.at.returns c).After-field_refusal-number) (sym (c.field_refusal-number.ensures b e l k) ∙ c.if-number-ne0.false))
+    let at = goal.at.returns c in
+    let f = at.After-field_refusal-number in
+    sym (passed-passing _ _ b (read f) (placed at.After-read_record-answer b e l) (read_it f) (sym (c.field_refusal-number.ensures b e l k) ∙ c.if-number-ne0.false))
