@@ -8,7 +8,7 @@ use lib.ListN.{get_or}
 use mathlib.Core.List.{[]}
 use Rattle.holding.proofs.Laws.Choices.{choice_here, choice_nowhere}
 use Rattle.holding.proofs.is_choice.Goals as goal
-use Rattle.holding.proofs.is_choice.Goals.{then-wide-d, else-wide-d}
+use Rattle.holding.proofs.is_choice.Goals.{then-wide-d+else-atom-k, else-wide-d}
 
 pub loop-k-init : goal.loop-k-init
 loop-k-init c = (omega arith, below_none _)
@@ -23,7 +23,7 @@ pub loop-k-preserved : goal.loop-k-preserved
 loop-k-preserved c = (
   search rules,
   below_more _ _ c.loop-k.invariant.1 (elim c.if-wide-d.branch [
-    | then-wide-d w ↦ λ e f. w.if-atom-k.false f
+    | then-wide-d+else-atom-k w ↦ λ e f. w.if-atom-k.false f
     | else-wide-d w ↦ λ e f. w.if-wide-d.false (c.wide.ensures.value ∙ e)
   ]),
 )
