@@ -1,14 +1,9 @@
 -- The proof of the cycle of calls {atom_holds, rule_holds}. Each call leaves right marks. Assumes nothing.
-use Prim.Native.Nat.{ℕ, ◌+◌, ◌*◌, ◌-◌, ◌<◌, ◌≤◌}
 use native.Mathlib.Omega.{arith}
-use mathlib.Core.Path.{◌≡◌, sym}
-use mathlib.Core.Bool.{true, false}
-use lib.ListN.{get_or}
-use borrow.Author.Rules.{rules}
+use mathlib.Core.Path.{sym}
 use borrow.Author.Count.{below_none, below_more}
-use Rattle.board.specs.Holds.{in_state, rule_holds}
-use Rattle.board.specs.Table.{rule_in}
-use Rattle.holding.specs.Private.Remembered.{lent_holds, Remembered}
+use Rattle.board.specs.Holds.{in_state}
+use Rattle.holding.specs.Private.Remembered.{lent_holds}
 use Rattle.holding.proofs.Laws.Remembered.{told_yes, told_no, rule_everywhere, rule-not-here, lent-chosen, lent-rule, lent_none, lent-room, lent-low}
 use Rattle.holding.proofs.+atom_holds_rule_holds.Goals as goal
 use Rattle.holding.proofs.+atom_holds_rule_holds.Goals.{atom_holds-then-head-rule+else-rule_holds, atom_holds-else-head-rule, rule_holds-then-b+else-not-atom_holds, rule_holds-else-b}

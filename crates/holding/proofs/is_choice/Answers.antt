@@ -1,10 +1,8 @@
 -- `is_choice` meets its contract: no hypothesis passed is of this declaration and has this atom. Assumes nothing.
-use Prim.Native.Nat.{ℕ, ◌≤◌, ◌<◌, ◌-◌}
-use mathlib.Core.Path.{◌≡◌, ◌∙◌}
+use mathlib.Core.Path.{◌∙◌}
 use native.Mathlib.Omega.{arith}
 use borrow.Author.Rules.{rules}
 use borrow.Author.Count.{below_none, below_more}
-use lib.ListN.{get_or}
 use mathlib.Core.List.{[]}
 use Rattle.holding.proofs.Laws.Choices.{choice_here, choice_nowhere}
 use Rattle.holding.proofs.is_choice.Goals as goal
