@@ -13,13 +13,13 @@ use Rattle.holding.proofs.+atom_holds_rule_holds.Goals.{atom_holds-then-head-rul
 pub atom_holds-returns-then-mark-eq1 : goal.atom_holds-returns-then-mark-eq1
 atom_holds-returns-then-mark-eq1 t c = record {
   value = sym ((c.requires.remembered.right c.args.a).one c.if-mark-eq1.true);
-  remembered_2 = c.requires.remembered;
+  remembers = c.requires.remembered;
 }
 
 pub atom_holds-returns-then-mark-eq2 : goal.atom_holds-returns-then-mark-eq2
 atom_holds-returns-then-mark-eq2 t c = record {
   value = sym ((c.requires.remembered.right c.args.a).two c.if-mark-eq2.true);
-  remembered_2 = c.requires.remembered;
+  remembers = c.requires.remembered;
 }
 
 pub atom_holds-returns-then-is_among : goal.atom_holds-returns-then-is_among
@@ -28,13 +28,10 @@ atom_holds-returns-then-is_among t c =
     let a = c.args in
     let (e, r) = told_yes _ _ _ c.requires.remembered
     (lent-chosen a.head.now a.body.now a.rules a.state.now c.requires.sound_rules a.a (rw c.if-is_among.true at c.is_among.ensures)) in
-    record { value = e; remembered_2 = r }
+    record { value = e; remembers = r }
 
 pub atom_holds-loop-rule-init : goal.atom_holds-loop-rule-init
 atom_holds-loop-rule-init t c = (omega arith, c.requires.remembered, below_none _)
-
-pub atom_holds-bounds-head-rule : goal.atom_holds-bounds-head-rule
-atom_holds-bounds-head-rule t c = omega (arith, c.requires.sound_rules.few)
 
 pub atom_holds-rule_holds-requires : goal.atom_holds-rule_holds-requires
 atom_holds-rule_holds-requires t c =
@@ -43,17 +40,17 @@ atom_holds-rule_holds-requires t c =
 pub atom_holds-returns-then-rule_holds : goal.atom_holds-returns-then-rule_holds
 atom_holds-returns-then-rule_holds t c =
     let a = c.args in
-    let (e, r) = told_yes (lent_holds a.head.now a.body.now a.rules a.state.now) _ _ c.rule_holds.ensures.remembered_2
+    let (e, r) = told_yes (lent_holds a.head.now a.body.now a.rules a.state.now) _ _ c.rule_holds.ensures.remembers
     (lent-rule a.head.now a.body.now a.rules a.state.now c.requires.sound_rules a.a c.loop-rule.rule c.loop-rule-test.true c.if-head-rule.true
     (rw c.if-rule_holds.true at c.rule_holds.ensures.value)) in
-    record { value = e; remembered_2 = r }
+    record { value = e; remembers = r }
 
 pub atom_holds-loop-rule-preserved : goal.atom_holds-loop-rule-preserved
 atom_holds-loop-rule-preserved t c =
     let inv = c.loop-rule.invariant in (
       omega arith,
       elim c.if-head-rule.branch [
-        | atom_holds-then-head-rule+else-rule_holds w ↦ rw w.known-is w.rule_holds.ensures.remembered_2
+        | atom_holds-then-head-rule+else-rule_holds w ↦ rw w.known-is w.rule_holds.ensures.remembers
         | atom_holds-else-head-rule w ↦ rw w.known-is inv.1
       ],
       below_more _ _ inv.2 (elim c.if-head-rule.branch [
@@ -69,21 +66,12 @@ atom_holds-returns t c =
     let inv = c.loop-rule.invariant in
     let (e, r) = told_no _ _ _ inv.1
     (lent_none a.head.now a.body.now a.rules a.state.now c.requires.sound_rules a.a (rw c.if-is_among.false at c.is_among.ensures) (λ k l. inv.2 k (omega arith))) in
-    record { value = e; remembered_2 = r }
+    record { value = e; remembers = r }
 
 -- ---- the rule test
 
-pub rule_holds-overflow_mul-first : goal.rule_holds-overflow_mul-first
-rule_holds-overflow_mul-first t c = omega (arith, c.requires.sound_rules.few)
-
 pub rule_holds-loop-place-init : goal.rule_holds-loop-place-init
 rule_holds-loop-place-init t c = (omega arith, c.requires.remembered, below_none _)
-
-pub rule_holds-overflow_add-b : goal.rule_holds-overflow_add-b
-rule_holds-overflow_add-b t c = omega (arith, c.requires.sound_rules.few)
-
-pub rule_holds-bounds-body-first : goal.rule_holds-bounds-body-first
-rule_holds-bounds-body-first t c = omega (arith, c.requires.sound_rules.few)
 
 pub rule_holds-atom_holds-requires : goal.rule_holds-atom_holds-requires
 rule_holds-atom_holds-requires t c =
@@ -100,7 +88,7 @@ rule_holds-returns-then-not-atom_holds t c =
       value = rule-not-here _ a.head.now a.body.now a.rule
           (lent-room a.head.now a.body.now a.rules p.sound_rules a.rule p.rule_lt_rules)
           c.loop-place.place (omega arith) c.if-b.true (rw c.if-not-atom_holds.true at c.atom_holds.ensures.value);
-      remembered_2 = c.atom_holds.ensures.remembered_2;
+      remembers = c.atom_holds.ensures.remembers;
     }
 
 pub rule_holds-loop-place-preserved : goal.rule_holds-loop-place-preserved
@@ -108,7 +96,7 @@ rule_holds-loop-place-preserved t c =
     let inv = c.loop-place.invariant in (
       omega arith,
       elim c.if-b.branch [
-        | rule_holds-then-b+else-not-atom_holds w ↦ rw w.known-is w.atom_holds.ensures.remembered_2
+        | rule_holds-then-b+else-not-atom_holds w ↦ rw w.known-is w.atom_holds.ensures.remembers
         | rule_holds-else-b w ↦ rw w.known-is inv.1
       ],
       below_more _ _ inv.2 (elim c.if-b.branch [
@@ -123,5 +111,5 @@ rule_holds-returns t c =
     let inv = c.loop-place.invariant in
     record {
       value = rule_everywhere _ a.head.now a.body.now a.rule (λ k l. inv.2 k (omega arith));
-      remembered_2 = inv.1;
+      remembers = inv.1;
     }

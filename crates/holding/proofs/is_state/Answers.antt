@@ -28,9 +28,6 @@ returns-then-not-is_choice c = let a = c.args in
     no_state_at (hypotheses_alone (hypotheses_in a.numbers.now a.atom.now [] a.hypotheses)) a.state.now
     c.loop-i.i (omega arith) (rw c.if-not-is_choice.true at c.is_choice.ensures)
 
-pub loop-i-preserved : goal.loop-i-preserved
-loop-i-preserved c = (search rules, below_more _ _ c.loop-i.invariant.1 (rw c.if-not-is_choice.false at c.is_choice.ensures))
-
 pub returns : goal.returns
 returns c = let a = c.args in
     is_state (hypotheses_alone (hypotheses_in a.numbers.now a.atom.now [] a.hypotheses)) a.state.now (omega (arith, counted (goal.at.returns c).Start)) (λ i l. c.loop-i.invariant.1 i (omega arith))
