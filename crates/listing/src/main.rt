@@ -7,10 +7,9 @@
 
 ghost use Rattle.std.specs.Prelude.{◌≤◌, length};
 
-use std::fs;
-use std::io;
 use std::io::{Read, Write};
 use std::rt::Files;
+use std::{fs, io};
 use text::{FILE_BYTES, INPUT_BYTES, TEXT_BYTES, listing};
 
 // Reads until the buffer is full, nothing is left or a read fails, and answers how many bytes stand at its beginning then.
