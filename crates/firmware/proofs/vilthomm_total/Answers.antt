@@ -13,14 +13,14 @@ use Rattle.firmware.proofs.vilthomm_total.Goals.{Else-not-is_table}
 
 pub returns-then-not-is_table : goal.returns-then-not-is_table
 unfolding number_of granted_number total_of total_answer
-returns-then-not-is_table c = simp (sym c.is_table.ensures ∙ not-true _ c.if-not-is_table.true)
+returns-then-not-is_table c = simp (sym c.is_table.ensures ∙ c.if-not-is_table.true)
 
 -- some file loads to the table
-accepted : (c : Else-not-is_table) → is_table c.args.t1 ≡ true
-accepted c = sym c.is_table.ensures ∙ not-false _ c.if-not-is_table.false
+accepted : (c : Else-not-is_table) → is_table c.args.table ≡ true
+accepted c = sym c.is_table.ensures ∙ c.if-not-is_table.false
 
 pub returns : goal.returns
 unfolding number_of granted_number total_of total_answer
 returns c =
-    let t = c.args.t1 in
+    let t = c.args.table in
     simp (accepted (goal.at.returns c).Else-not-is_table, c.whole_weight.ensures 0 [] [] ∙ table-weight t (T_of_true (accepted (goal.at.returns c).Else-not-is_table)) 0 [] [])

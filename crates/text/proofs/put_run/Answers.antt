@@ -16,12 +16,12 @@ use Rattle.text.proofs.put_run.Goals as goal
 use Rattle.text.proofs.put_run.Goals.{After-whole_weight-whole}
 
 -- what is printed of the run: W as `whole_weight` gives it, the lines, the last line
-all : (c : After-whole_weight-whole) → let r = c.run-ran.result in let t = c.args.t2 in
+all : (c : After-whole_weight-whole) → let r = c.run-ran.result in let t = c.args.t in
     ran_text (board_of t) (run_search bench t c.args.from c.args.allowance)
     ≡ bytes_of "total " ++ decimal c.whole_weight-whole.result ++ bytes_of "\n" ++ lines_text r.search.line r.search.lines ++ last_text (run_means r)
 unfolding ran_text run_means
 all c =
-    rw (← c.run-ran.ensures, ← table-weight c.args.t2 c.requires.0 0 [] [], ← c.whole_weight-whole.ensures 0 [] [], lines_texts)
+    rw (← c.run-ran.ensures, ← table-weight c.args.t c.requires.t 0 [] [], ← c.whole_weight-whole.ensures 0 [] [], lines_texts)
 
 pub put_ended-lines-requires : goal.put_ended-lines-requires
 unfolding bytes_of
