@@ -82,7 +82,7 @@ def command_sources(tally):
                building.crates_of("listing"), {
                    "listing", "text", "bounds", "running", "opening",
                    "wellformed", "prepared", "search", "files", "board",
-                   "sets", "io", "libc", "os"})
+                   "sets"})
     sources = list(building.sources())
     for path, wanted in (
             (("sets", "src", "lib.rt"), True),
