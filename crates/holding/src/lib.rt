@@ -3,6 +3,8 @@
 // The arrays of a table are lent one by one, those of one struct at one lifetime.
 //
 // The counts of basic steps below are for r rules, n hypotheses and a state of d atoms.
+#![tactic(auto)]
+
 ghost use Rattle.std.specs.Prelude.{◌≡◌, [], ◌<◌, ◌≤◌};
 ghost use Rattle.sets.specs.Lists.{among};
 ghost use Rattle.board.specs.Sizes.{most_atoms};

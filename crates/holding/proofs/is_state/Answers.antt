@@ -2,8 +2,7 @@
 use mathlib.Core.Path.{◌≡◌, sym, ◌∙◌}
 use mathlib.Core.List.{[]}
 use native.Mathlib.Omega.{arith}
-use borrow.Author.Rules.{rules}
-use borrow.Author.Count.{below_none, below_more}
+use borrow.Author.Count.{below_none}
 use Rattle.board.specs.Board.{declarations_in}
 use Rattle.board.proofs.Laws.Board.States.{is_state, no_state_length, no_state_at}
 use Rattle.board.proofs.Laws.Lent.{declarations_in-lent}

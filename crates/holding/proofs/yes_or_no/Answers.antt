@@ -51,13 +51,16 @@ state_test c u e = let t = c.args.t in is_state_of-lent t.declaration t.atom t.w
 
 pub returns-then-not-is_state : goal.returns-then-not-is_state
 unfolding told_means yes_or_no
-returns-then-not-is_state c = simp (accepted (goal.at.returns-then-not-is_state c).Else-not-is_table, state_test (goal.at.returns-then-not-is_state c).After-is_state false c.if-not-is_state.true)
+returns-then-not-is_state c =
+    let g = goal.at.returns-then-not-is_state c in
+    simp (accepted g.Else-not-is_table, state_test g.After-is_state false c.if-not-is_state.true)
 
 pub returns-then-t-wide : goal.returns-then-t-wide
 unfolding told_means yes_or_no
 returns-then-t-wide c =
     let a = c.args in
-    simp (accepted (goal.at.returns-then-t-wide c).Else-not-is_table, state_test (goal.at.returns-then-t-wide c).After-is_state true c.if-not-is_state.false, le-leb a.t.atoms a.atom (omega (arith, c.wide.ensures.value)))
+    let g = goal.at.returns-then-t-wide c in
+    simp (accepted g.Else-not-is_table, state_test g.After-is_state true c.if-not-is_state.false, le-leb a.t.atoms a.atom (omega (arith, c.wide.ensures.value)))
 
 pub holds_in-requires : goal.holds_in-requires
 holds_in-requires c =
@@ -85,10 +88,12 @@ pub returns-then-holds_in : goal.returns-then-holds_in
 unfolding told_means
 returns-then-holds_in c =
     let g = goal.at.returns-then-holds_in c in
-    sym (past c.args.t _ _ true (accepted g.Else-not-is_table) (state_test g.After-is_state true c.if-not-is_state.false) (omega (arith, c.wide.ensures.value)) (holding_test g.After-holds_in true c.if-holds_in.true))
+    sym (past c.args.t _ _ true (accepted g.Else-not-is_table) (state_test g.After-is_state true c.if-not-is_state.false) (omega (arith, c.wide.ensures.value))
+    (holding_test g.After-holds_in true c.if-holds_in.true))
 
 pub returns : goal.returns
 unfolding told_means
 returns c =
     let g = goal.at.returns c in
-    sym (past c.args.t _ _ false (accepted g.Else-not-is_table) (state_test g.After-is_state true c.if-not-is_state.false) (omega (arith, c.wide.ensures.value)) (holding_test g.After-holds_in false c.if-holds_in.false))
+    sym (past c.args.t _ _ false (accepted g.Else-not-is_table) (state_test g.After-is_state true c.if-not-is_state.false) (omega (arith, c.wide.ensures.value))
+    (holding_test g.After-holds_in false c.if-holds_in.false))

@@ -1,5 +1,4 @@
 -- `listing` meets its contract: too little room, an accepted file, a refused one. Assumes nothing.
-use borrow.Author.Rules.{rules}
 use native.Mathlib.Omega.{arith}
 use lib.Dec.{T}
 use lib.Pow.{are_bytes}

@@ -1,5 +1,4 @@
 -- `put_asked` meets its contract: an input that is too short, and any other. Assumes nothing.
-use borrow.Author.Rules.{rules}
 use native.Mathlib.Omega.{arith}
 use Rattle.board.specs.Table.{board_of}
 use Rattle.board.proofs.Promise.{is_table-stored}

@@ -1,5 +1,4 @@
 -- `put_opened` meets its contract: what is printed of the run of an accepted question, and of a refused one. Assumes nothing.
-use borrow.Author.Rules.{rules}
 use native.Mathlib.Omega.{arith}
 use Rattle.text.proofs.Laws.Answered.{opened-accepted, opened-length, opened-refused}
 use Rattle.text.proofs.put_opened.Goals as goal

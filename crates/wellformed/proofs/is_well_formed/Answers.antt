@@ -1,10 +1,7 @@
 -- `is_well_formed` meets its contract: its tests, in their order, are the definition's; the last two rely on those before them. Assumes nothing.
 use native.Mathlib.Omega.{arith}
-use borrow.Author.Rules.{rules}
-use borrow.Author.Tests.{ltb-true, ltb-false}
 use mathlib.Core.Path.{◌≡◌, sym, ◌∙◌}
 use mathlib.Core.Bool.{Bool}
-use mathlib.Core.Logic.{inl, inr}
 use Prim.Native.Nat.{ℕ, ◌≤◌}
 use Rattle.sets.proofs.Laws.Tests.{T_of_true, false_of_T, and_then, and_else, and_left, and_right}
 use Rattle.board.specs.Board.{Board}

@@ -28,7 +28,6 @@ returns-in_default c b e l k =
 
 -- the record that was read
 module _ (f : After-field_refusal-number) where
-
   abbrev read : Found
   read = record { found = record_means f.in-At.found; next = f.in-At.field-1 }
 

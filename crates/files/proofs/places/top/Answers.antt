@@ -20,9 +20,9 @@ loop-left-preserved c =
     let whole = rw (low_bytes_pop l.left l.rest (omega arith)) at l.invariant.1 in
     elim c.if-place-ne255.branch [
       | then-place-ne255 w ↦ (
-          omega (arith, w.larger-past.ensures, w.past-is),
-          rw (w.past-is, w.larger-past.ensures, add-one) (sym (top-filled _ _ _ w.if-place-ne255.true) ∙ whole),
-        )
+        omega (arith, w.larger-past.ensures, w.past-is),
+        rw (w.past-is, w.larger-past.ensures, add-one) (sym (top-filled _ _ _ w.if-place-ne255.true) ∙ whole),
+      )
       | else-place-ne255 w ↦ (omega (arith, w.past-is), rw w.past-is (sym (top_empty _ _ _ w.if-place-ne255.false) ∙ whole))
     ]
 
