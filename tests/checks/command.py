@@ -78,11 +78,11 @@ def command_sources(tally):
     tally.same("a crate alone", building.crates_of("sets"), {"sets"})
     tally.same("a library", building.crates_of("holding"),
                {"holding", "files", "board", "sets"})
-    tally.same("a program, with crates of the toolchain",
+    tally.same("a program",
                building.crates_of("listing"), {
                    "listing", "text", "bounds", "running", "opening",
                    "wellformed", "prepared", "search", "files", "board",
-                   "sets", "io", "libc", "os"})
+                   "sets"})
     sources = list(building.sources())
     for path, wanted in (
             (("sets", "src", "lib.rt"), True),

@@ -8,6 +8,8 @@ use crate::state::print_search;
 use crate::truth::print_true;
 use board::Table;
 use search::Search;
+use std::io;
+use std::io::Write;
 
 // The first byte of an act.
 const OPEN: usize = 1;
@@ -31,23 +33,23 @@ struct Held {
 }
 
 // Opens the question, prints the answer, and hands back the search that it leaves.
-fn opened(t: Table, question: &[u8]) -> Search {
+fn opened<W: Write>(out: &mut W, t: Table, question: &[u8]) -> io::Result<Search> {
     let opening = opening::open(t, question);
     let answer = opening.answer;
     let left = opening.search;
-    print_opened(answer);
-    print_search(left);
-    left
+    print_opened(out, answer)?;
+    print_search(out, left)?;
+    Ok(left)
 }
 
 // Runs the search, prints the answer, and hands back the search that it leaves.
-fn ran(t: Table, held: Search, allowance: u16) -> Search {
+fn ran<W: Write>(out: &mut W, t: Table, held: Search, allowance: u16) -> io::Result<Search> {
     let run = running::run(t, held, allowance);
     let ending = run.ending;
     let left = run.search;
-    print_ran(ending, run.steps, run.low, run.high);
-    print_search(left);
-    left
+    print_ran(out, ending, run.steps, run.low, run.high)?;
+    print_search(out, left)?;
+    Ok(left)
 }
 
 // The place of the act after the one at `at`.
@@ -66,7 +68,7 @@ fn next_act(s: &[u8], at: usize) -> usize
 }
 
 // What the act at `at` leaves. It prints what the act answers.
-fn after_act(s: &[u8], at: usize, held: Held) -> Held {
+fn after_act<W: Write>(out: &mut W, s: &[u8], at: usize, held: Held) -> io::Result<Held> {
     let mut table = held.table;
     let mut search = held.search;
     let mut asked = held.asked;
@@ -76,25 +78,25 @@ fn after_act(s: &[u8], at: usize, held: Held) -> Held {
     let value = eight_bytes(s, past(s, from, 3));
     match byte_at(s, at) {
         OPEN => {
-            search = opened(table, atoms(s, from));
+            search = opened(out, table, atoms(s, from))?;
             asked = from;
         }
-        RUN => search = ran(table, search, two_bytes(s, from) as u16),
-        SHARE => print_share(shares::share(table, search, eight_bytes(s, from))),
+        RUN => search = ran(out, table, search, two_bytes(s, from) as u16)?,
+        SHARE => print_share(out, shares::share(table, search, eight_bytes(s, from)))?,
         SET_IN_SEARCH => search = set_in_search(search, field, index, value),
         SET_IN_TABLE => table = set_in_table(table, field, index, value),
-        TRUE_WEIGHT => print_true(table, atoms(s, asked)),
+        TRUE_WEIGHT => print_true(out, table, atoms(s, asked))?,
         _ => {}
     }
-    Held {
+    Ok(Held {
         table,
         search,
         asked,
-    }
+    })
 }
 
 // All acts of an item. Before the first opening the question has no atom.
-pub(crate) fn acts(t: Table, s: &[u8]) {
+pub(crate) fn acts<W: Write>(out: &mut W, t: Table, s: &[u8]) -> io::Result<()> {
     let mut held = Held {
         table: t,
         search: search::zero_search(),
@@ -102,7 +104,8 @@ pub(crate) fn acts(t: Table, s: &[u8]) {
     };
     let mut at = 0;
     while at < s.len() {
-        held = after_act(s, at, held);
+        held = after_act(out, s, at, held)?;
         at = next_act(s, at);
     }
+    Ok(())
 }

@@ -17,6 +17,8 @@ use bounds::{Driven, Last, drive};
 use files::accepted::is_table;
 use files::load::load;
 use files::record::read_record;
+use std::io;
+use std::io::Write;
 
 // The items that a container has.
 #[derive(Clone, Copy)]
@@ -30,45 +32,46 @@ pub(crate) enum Kind {
 }
 
 // Prints `accepted W` or `refused N at P`.
-fn board_item(file: &[u8]) {
+fn board_item<W: Write>(out: &mut W, file: &[u8]) -> io::Result<()> {
     let loading = load(file);
     let answer = loading.answer;
     let table = loading.table;
     match answer {
         Loaded::Accepted => print_last(
+            out,
             b"accepted ",
             whole_weight(&table.declaration, &table.weight, table.hypotheses),
         ),
-        Loaded::Refused(number, place) => print_refused_at(number, place),
+        Loaded::Refused(number, place) => print_refused_at(out, number, place),
     }
 }
 
 // Asks an atom in a board state.
-fn state_item(file: &[u8], s: &[u8], at: usize) {
+fn state_item<W: Write>(out: &mut W, file: &[u8], s: &[u8], at: usize) -> io::Result<()> {
     let loading = load(file);
     let atom = byte_at(s, after_atoms(s, at)) as u8;
-    print_told(holding::yes_or_no(loading.table, atoms(s, at), atom));
+    print_told(out, holding::yes_or_no(loading.table, atoms(s, at), atom))
 }
 
 // Tests the table of the file with a field set, and prints `table` or `no table`.
-fn table_item(file: &[u8], s: &[u8], at: usize) {
+fn table_item<W: Write>(out: &mut W, file: &[u8], s: &[u8], at: usize) -> io::Result<()> {
     let loading = load(file);
     let index = two_bytes(s, past(s, at, 1));
     let value = four_bytes(s, past(s, at, 3));
     if is_table(set_in_table(loading.table, byte_at(s, at), index, value)) {
-        print(b"table\n");
+        print(out, b"table\n")
     } else {
-        print(b"no table\n");
+        print(out, b"no table\n")
     }
 }
 
 // Carries out acts on the table of the file.
-fn acts_item(file: &[u8], script: &[u8]) {
+fn acts_item<W: Write>(out: &mut W, file: &[u8], script: &[u8]) -> io::Result<()> {
     let loading = load(file);
     let answer = loading.answer;
     let table = loading.table;
-    print_loaded(answer);
-    acts(table, script);
+    print_loaded(out, answer)?;
+    acts(out, table, script)
 }
 
 // The 256 numbers of two bytes each that stand at a place.
@@ -85,45 +88,45 @@ fn numbers_at(s: &[u8], at: usize) -> [u16; 256]
 }
 
 // Prints `no run` or what the last run answered.
-fn print_last_run(last: Last) {
+fn print_last_run<W: Write>(out: &mut W, last: Last) -> io::Result<()> {
     match last {
-        Last::NoRun => print(b"no run\n"),
-        Last::Ran(ending, steps, low, high) => print_ran(ending, steps, low, high),
+        Last::NoRun => print(out, b"no run\n"),
+        Last::Ran(ending, steps, low, high) => print_ran(out, ending, steps, low, high),
     }
 }
 
 // Prints what the driver hands back.
-fn print_driven(driven: Driven) {
+fn print_driven<W: Write>(out: &mut W, driven: Driven) -> io::Result<()> {
     let loaded = driven.loaded;
     let opened = driven.opened;
     let after = driven.after;
     let last = after.last;
-    print_loaded(loaded);
-    print_opened(opened);
-    print_last_run(last);
-    print_search(after.search);
+    print_loaded(out, loaded)?;
+    print_opened(out, opened)?;
+    print_last_run(out, last)?;
+    print_search(out, after.search)
 }
 
 // Drives with a question and allowances.
-fn driven_item(file: &[u8], s: &[u8], at: usize) {
+fn driven_item<W: Write>(out: &mut W, file: &[u8], s: &[u8], at: usize) -> io::Result<()> {
     let question = atoms(s, at);
     let count = after_atoms(s, at);
     let n = byte_at(s, count);
     let allowances = numbers_at(s, past(s, count, 1));
-    print_driven(drive(file, question, &allowances[0..n]));
+    print_driven(out, drive(file, question, &allowances[0..n]))
 }
 
 // Carries out the item at `at`.
-pub(crate) fn item(kind: Kind, s: &[u8], at: usize) {
+pub(crate) fn item<W: Write>(out: &mut W, kind: Kind, s: &[u8], at: usize) -> io::Result<()> {
     let file = part(s, at);
     let rest = after_part(s, at);
     match kind {
-        Kind::Boards => board_item(file),
-        Kind::States => state_item(file, s, rest),
-        Kind::Records => print_read(read_record(file, four_bytes(s, rest))),
-        Kind::Tables => table_item(file, s, rest),
-        Kind::Acts => acts_item(file, part(s, rest)),
-        Kind::Driven => driven_item(file, s, rest),
+        Kind::Boards => board_item(out, file),
+        Kind::States => state_item(out, file, s, rest),
+        Kind::Records => print_read(out, read_record(file, four_bytes(s, rest))),
+        Kind::Tables => table_item(out, file, s, rest),
+        Kind::Acts => acts_item(out, file, part(s, rest)),
+        Kind::Driven => driven_item(out, file, s, rest),
     }
 }
 

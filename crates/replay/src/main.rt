@@ -19,10 +19,14 @@
 //     driven.bin     a question, and allowances in two bytes each, both after their count in one byte: drives with them
 //
 // What is printed of each answer is said in `print`, of a search in `state`.
-ghost use Rattle.std.specs.Prelude.{◌≡◌, length};
-ghost use Rattle.io.specs.Counts.{IsPrefixLen};
+#![tactic(auto)]
+
+ghost use Rattle.std.specs.Prelude.{◌≡◌, ◌≤◌, length};
 
 use item::{Kind, item, next_item};
+use std::io::{BufWriter, Read, Write};
+use std::rt::Files;
+use std::{fs, io};
 
 mod act;
 mod container;
@@ -33,26 +37,41 @@ mod state;
 mod truth;
 
 // All items of a container.
-fn items(kind: Kind, s: &[u8]) {
+fn items<W: Write>(out: &mut W, kind: Kind, s: &[u8]) -> io::Result<()> {
     let mut at = 0;
     while at < s.len() {
-        item(kind, s, at);
+        item(out, kind, s, at)?;
         at = next_item(kind, s, at);
     }
+    Ok(())
 }
 
-// Reads the file into the buffer, and answers how many bytes it has, 0 where it will not open.
-fn read_file(path: &[u8], buffer: &mut [u8]) -> usize
-    ensures { IsPrefixLen result buffer.new }
+// Reads until the buffer is full, nothing is left or a read fails, and answers how many bytes stand at its beginning then.
+fn read_full<R: Read>(reader: &mut R, buffer: &mut [u8]) -> usize
+    ensures { result ≤ length buffer.new }
 {
-    let file = os::open_read(path);
-    if file < 0 {
-        os::fail(path);
-        return 0;
+    let mut done = 0;
+    while done < buffer.len() {
+        match reader.read(&mut buffer[done..]) {
+            Ok(0) => break,
+            Ok(n) => done += n,
+            Err(_) => break,
+        }
     }
-    let n = io::read_full(file, buffer);
-    libc::close(file);
-    n
+    done
+}
+
+// Reads the file into the buffer, and answers how many bytes it has, 0 where it will not open; that is said on standard error.
+fn read_file(rt: &(impl Files + Eprint), path: &str, buffer: &mut [u8]) -> usize
+    ensures { result ≤ length buffer.new }
+{
+    match fs::open(rt, path) {
+        Ok(mut file) => read_full(&mut file, buffer),
+        Err(error) => {
+            let _ = eprintln!(rt; "{path}: {error}");
+            0
+        }
+    }
 }
 
 // Room for a container.
@@ -63,21 +82,30 @@ fn room() -> [u8; 262144]
 }
 
 // Carries out all of a container.
-fn replay(path: &[u8], kind: Kind, buffer: &mut [u8]) {
-    let n = read_file(path, buffer);
-    items(kind, &buffer[..n]);
+fn replay<W: Write>(
+    rt: &(impl Files + Eprint),
+    out: &mut W,
+    path: &str,
+    kind: Kind,
+    buffer: &mut [u8],
+) -> io::Result<()> {
+    let n = read_file(rt, path, buffer);
+    items(out, kind, &buffer[..n])
 }
 
-fn main() {
+// A write that fails ends it with an error.
+fn main(rt: HostRuntime) -> io::Result<()> {
+    let mut out = BufWriter::new(rt.alloc(), rt.stdout())?;
     let mut space = room();
     let buffer: &mut [u8] = &mut space;
-    replay(b"boards.bin", Kind::Boards, buffer);
-    replay(b"states.bin", Kind::States, buffer);
-    replay(b"records.bin", Kind::Records, buffer);
-    replay(b"tables.bin", Kind::Tables, buffer);
-    replay(b"runs.bin", Kind::Acts, buffer);
-    replay(b"handed.bin", Kind::Acts, buffer);
-    replay(b"shares.bin", Kind::Acts, buffer);
-    replay(b"changed.bin", Kind::Acts, buffer);
-    replay(b"driven.bin", Kind::Driven, buffer);
+    replay(&rt, &mut out, "boards.bin", Kind::Boards, buffer)?;
+    replay(&rt, &mut out, "states.bin", Kind::States, buffer)?;
+    replay(&rt, &mut out, "records.bin", Kind::Records, buffer)?;
+    replay(&rt, &mut out, "tables.bin", Kind::Tables, buffer)?;
+    replay(&rt, &mut out, "runs.bin", Kind::Acts, buffer)?;
+    replay(&rt, &mut out, "handed.bin", Kind::Acts, buffer)?;
+    replay(&rt, &mut out, "shares.bin", Kind::Acts, buffer)?;
+    replay(&rt, &mut out, "changed.bin", Kind::Acts, buffer)?;
+    replay(&rt, &mut out, "driven.bin", Kind::Driven, buffer)?;
+    out.flush()
 }

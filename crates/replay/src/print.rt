@@ -1,116 +1,123 @@
-// What is printed, word by word, and the lines of each answer.
+// What is printed, word by word, and the lines of each answer. A write that fails ends the printing with its error.
 use board::{Loaded, Read, Record, Told};
-use libc::STDOUT_FILENO;
 use search::{Ending, Opened, Share};
+use std::io;
+use std::io::Write;
 
 // Prints the words.
-pub(crate) fn print(words: &[u8]) {
-    io::write_all(STDOUT_FILENO, words);
+pub(crate) fn print<W: Write>(out: &mut W, words: &[u8]) -> io::Result<()> {
+    out.write_all(words)
 }
 
 // Prints the words and the number.
-pub(crate) fn print_number(words: &[u8], n: u64) {
-    print(words);
-    io::print_decimal(STDOUT_FILENO, n);
+pub(crate) fn print_number<W: Write>(out: &mut W, words: &[u8], n: u64) -> io::Result<()> {
+    print(out, words)?;
+    write!(out, "{n}")
 }
 
 // The same as the last of a line.
-pub(crate) fn print_last(words: &[u8], n: u64) {
-    print_number(words, n);
-    print(b"\n");
+pub(crate) fn print_last<W: Write>(out: &mut W, words: &[u8], n: u64) -> io::Result<()> {
+    print_number(out, words, n)?;
+    print(out, b"\n")
 }
 
 // Prints `refused N at P`.
-pub(crate) fn print_refused_at(number: u8, place: usize) {
-    print_number(b"refused ", number as u64);
-    print_last(b" at ", place as u64);
+pub(crate) fn print_refused_at<W: Write>(out: &mut W, number: u8, place: usize) -> io::Result<()> {
+    print_number(out, b"refused ", number as u64)?;
+    print_last(out, b" at ", place as u64)
 }
 
 // Prints `board` or `refused N at P`.
-pub(crate) fn print_loaded(answer: Loaded) {
+pub(crate) fn print_loaded<W: Write>(out: &mut W, answer: Loaded) -> io::Result<()> {
     match answer {
-        Loaded::Accepted => print(b"board\n"),
-        Loaded::Refused(number, place) => print_refused_at(number, place),
+        Loaded::Accepted => print(out, b"board\n"),
+        Loaded::Refused(number, place) => print_refused_at(out, number, place),
     }
 }
 
 // Prints `yes`, `no` or `refused N`.
-pub(crate) fn print_told(told: Told) {
+pub(crate) fn print_told<W: Write>(out: &mut W, told: Told) -> io::Result<()> {
     match told {
-        Told::Yes => print(b"yes\n"),
-        Told::No => print(b"no\n"),
-        Told::Refused(number) => print_last(b"refused ", number as u64),
+        Told::Yes => print(out, b"yes\n"),
+        Told::No => print(out, b"no\n"),
+        Told::Refused(number) => print_last(out, b"refused ", number as u64),
     }
 }
 
 // Prints `open` or `open refused N`.
-pub(crate) fn print_opened(opened: Opened) {
+pub(crate) fn print_opened<W: Write>(out: &mut W, opened: Opened) -> io::Result<()> {
     match opened {
-        Opened::Accepted => print(b"open\n"),
-        Opened::Refused(number) => print_last(b"open refused ", number as u64),
+        Opened::Accepted => print(out, b"open\n"),
+        Opened::Refused(number) => print_last(out, b"open refused ", number as u64),
     }
 }
 
 // Prints how a run ended, `done`, `more` or `refused N`, and `steps N low N high N`.
-pub(crate) fn print_ran(ending: Ending, steps: u32, low: u64, high: u64) {
+pub(crate) fn print_ran<W: Write>(
+    out: &mut W,
+    ending: Ending,
+    steps: u32,
+    low: u64,
+    high: u64,
+) -> io::Result<()> {
     match ending {
-        Ending::Done => print(b"done"),
-        Ending::More => print(b"more"),
-        Ending::Refused(number) => print_number(b"refused ", number as u64),
+        Ending::Done => print(out, b"done")?,
+        Ending::More => print(out, b"more")?,
+        Ending::Refused(number) => print_number(out, b"refused ", number as u64)?,
     }
-    print_number(b" steps ", steps as u64);
-    print_number(b" low ", low);
-    print_last(b" high ", high);
+    print_number(out, b" steps ", steps as u64)?;
+    print_number(out, b" low ", low)?;
+    print_last(out, b" high ", high)
 }
 
 // Prints `share N` or `share refused N`.
-pub(crate) fn print_share(share: Share) {
+pub(crate) fn print_share<W: Write>(out: &mut W, share: Share) -> io::Result<()> {
     match share {
-        Share::Thousandths(thousandths) => print_last(b"share ", thousandths),
-        Share::Refused(number) => print_last(b"share refused ", number as u64),
+        Share::Thousandths(thousandths) => print_last(out, b"share ", thousandths),
+        Share::Refused(number) => print_last(out, b"share refused ", number as u64),
     }
 }
 
 // Prints the bytes of a number from the low one on, each after a blank: two, four or eight of them.
-fn print_two(n: u64) {
-    print_number(b" ", n % 256);
-    print_number(b" ", n / 256 % 256);
+fn print_two<W: Write>(out: &mut W, n: u64) -> io::Result<()> {
+    print_number(out, b" ", n % 256)?;
+    print_number(out, b" ", n / 256 % 256)
 }
 
-fn print_four(n: u64) {
-    print_two(n);
-    print_two(n / 65536);
+fn print_four<W: Write>(out: &mut W, n: u64) -> io::Result<()> {
+    print_two(out, n)?;
+    print_two(out, n / 65536)
 }
 
-fn print_eight(n: u64) {
-    print_four(n);
-    print_four(n / 4294967296);
+fn print_eight<W: Write>(out: &mut W, n: u64) -> io::Result<()> {
+    print_four(out, n)?;
+    print_four(out, n / 4294967296)
 }
 
 // Prints the record's kind and fields.
-fn print_record(record: Record) {
+fn print_record<W: Write>(out: &mut W, record: Record) -> io::Result<()> {
     match record {
-        Record::Count(atoms) => print_number(b"count ", atoms as u64),
+        Record::Count(atoms) => print_number(out, b"count ", atoms as u64),
         Record::Hypothesis(declaration, atom, weight) => {
-            print_number(b"hypothesis ", declaration as u64);
-            print_number(b" ", atom as u64);
-            print_number(b" ", weight as u64);
+            print_number(out, b"hypothesis ", declaration as u64)?;
+            print_number(out, b" ", atom as u64)?;
+            print_number(out, b" ", weight as u64)
         }
         Record::Rule(head, places) => {
-            print_number(b"rule ", head as u64);
-            print_eight(places);
+            print_number(out, b"rule ", head as u64)?;
+            print_eight(out, places)
         }
-        Record::End => print(b"end"),
+        Record::End => print(out, b"end"),
     }
 }
 
 // Prints `count N next P`, `hypothesis D A W next P`, `rule H P1 .. P8 next P`, `end next P` or `refused N at P`.
-pub(crate) fn print_read(read: Read) {
+pub(crate) fn print_read<W: Write>(out: &mut W, read: Read) -> io::Result<()> {
     match read {
         Read::At(record, next) => {
-            print_record(record);
-            print_last(b" next ", next as u64);
+            print_record(out, record)?;
+            print_last(out, b" next ", next as u64)
         }
-        Read::Refused(number, place) => print_refused_at(number, place),
+        Read::Refused(number, place) => print_refused_at(out, number, place),
     }
 }

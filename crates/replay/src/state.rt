@@ -3,6 +3,8 @@ use crate::print::{print, print_last, print_number};
 use search::Search;
 use search::layout::{entry_at, line_at};
 use sets::mask::{Mask, member};
+use std::io;
+use std::io::Write;
 
 // The most lines, and the most entries, that are printed one by one. Of more there are the count and the sums.
 const MOST_PRINTED: usize = 16;
@@ -16,8 +18,8 @@ struct Sum {
 
 // The sums with one word more.
 fn add_word(sum: Sum, word: u64) -> Sum {
-    let words = std::num::wrapping_add_u64(sum.words, word);
-    let sums = std::num::wrapping_add_u64(sum.sums, words);
+    let words = sum.words.wrapping_add(word);
+    let sums = sum.sums.wrapping_add(words);
     Sum { words, sums }
 }
 
@@ -55,59 +57,63 @@ fn sum_of(s: Search) -> Sum {
 }
 
 // Prints the atom after a blank, if it is in the set.
-fn print_member(set: Mask, atom: u8) {
+fn print_member<W: Write>(out: &mut W, set: Mask, atom: u8) -> io::Result<()> {
     if member(set, atom) {
-        print_number(b" ", atom as u64);
+        print_number(out, b" ", atom as u64)?;
     }
+    Ok(())
 }
 
 // Prints the atoms of a set, ascending.
-fn print_set(set: Mask) {
+fn print_set<W: Write>(out: &mut W, set: Mask) -> io::Result<()> {
     for atom in 0..128u8 {
-        print_member(set, atom);
+        print_member(out, set, atom)?;
     }
+    Ok(())
 }
 
 // Prints the line at an index, `line W A A ..`.
-fn print_line(s: Search, i: usize) {
+fn print_line<W: Write>(out: &mut W, s: Search, i: usize) -> io::Result<()> {
     let l = line_at(&s.line, i);
-    print_number(b"line ", l.weight);
-    print_set(l.chosen);
-    print(b"\n");
+    print_number(out, b"line ", l.weight)?;
+    print_set(out, l.chosen)?;
+    print(out, b"\n")
 }
 
 // Prints the entry at an index, `entry W A A .. pending A A ..`.
-fn print_entry(s: Search, i: usize) {
+fn print_entry<W: Write>(out: &mut W, s: Search, i: usize) -> io::Result<()> {
     let e = entry_at(&s.entry, i);
-    print_number(b"entry ", e.weight);
-    print_set(e.chosen);
-    print(b" pending");
-    print_set(e.pending);
-    print(b"\n");
+    print_number(out, b"entry ", e.weight)?;
+    print_set(out, e.chosen)?;
+    print(out, b" pending")?;
+    print_set(out, e.pending)?;
+    print(out, b"\n")
 }
 
 // Prints so many lines, or so many entries, of which the first one stands last.
-fn print_rows(s: Search, count: usize, lines: bool) {
+fn print_rows<W: Write>(out: &mut W, s: Search, count: usize, lines: bool) -> io::Result<()> {
     for i in 0..count {
         if lines {
-            print_line(s, i);
+            print_line(out, s, i)?;
         } else {
-            print_entry(s, count - 1 - i);
+            print_entry(out, s, count - 1 - i)?;
         }
     }
+    Ok(())
 }
 
 // Prints a search.
-pub(crate) fn print_search(s: Search) {
+pub(crate) fn print_search<W: Write>(out: &mut W, s: Search) -> io::Result<()> {
     let sum = sum_of(s);
-    print_number(b"entries ", s.entries as u64);
-    print_number(b" lines ", s.lines as u64);
-    print_number(b" sum ", sum.words);
-    print_last(b" ", sum.sums);
+    print_number(out, b"entries ", s.entries as u64)?;
+    print_number(out, b" lines ", s.lines as u64)?;
+    print_number(out, b" sum ", sum.words)?;
+    print_last(out, b" ", sum.sums)?;
     if s.lines <= MOST_PRINTED {
-        print_rows(s, s.lines, true);
+        print_rows(out, s, s.lines, true)?;
     }
     if s.entries <= MOST_PRINTED {
-        print_rows(s, s.entries, false);
+        print_rows(out, s, s.entries, false)?;
     }
+    Ok(())
 }
