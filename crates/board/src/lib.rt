@@ -3,6 +3,8 @@
 // nothing of searching.
 //
 // The code that reads files and tells which tables some file loads to is the crate `files`; the yes-or-no is the crate `holding`.
+#![tactic(auto)]
+
 pub mod facts;
 pub mod walks;
 mod weights;

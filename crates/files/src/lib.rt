@@ -4,6 +4,8 @@
 // - `accepted::is_table` tells whether some file loads to a table, which is what refusal 20 asks.
 //
 // What these mean is in `specs/` of the crate `board`; every public contract here is an equation with a definition there.
+#![tactic(auto)]
+
 ghost use Rattle.std.specs.Prelude.{◌≡◌};
 ghost use Rattle.board.specs.Table.{zero_table};
 

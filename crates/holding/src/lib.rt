@@ -3,6 +3,8 @@
 // The arrays of a table are lent one by one, those of one struct at one lifetime.
 //
 // The counts of basic steps below are for r rules, n hypotheses and a state of d atoms.
+#![tactic(auto)]
+
 ghost use Rattle.std.specs.Prelude.{◌≡◌, [], ◌<◌, ◌≤◌};
 ghost use Rattle.sets.specs.Lists.{among};
 ghost use Rattle.board.specs.Sizes.{most_atoms};
@@ -47,7 +49,7 @@ fn atom_holds(
     requires a_lt_most_atoms { a < most_atoms }
     requires remembered { Remembered (lent_holds head.now body.now rules state.now) known.old }
     ensures value { result ≡ lent_holds head.now body.now rules state.now a }
-    ensures remembered_2 { Remembered (lent_holds head.now body.now rules state.now) known.new }
+    ensures remembers { Remembered (lent_holds head.now body.now rules state.now) known.new }
 {
     let at = a as usize;
     let mark = known[at];
@@ -90,7 +92,7 @@ fn rule_holds(
     requires rule_lt_rules { rule < rules }
     requires remembered { Remembered (lent_holds head.now body.now rules state.now) known.old }
     ensures value { result ≡ rule_holds (lent_holds head.now body.now rules state.now) (rule_in head.now body.now rule) }
-    ensures remembered_2 { Remembered (lent_holds head.now body.now rules state.now) known.new }
+    ensures remembers { Remembered (lent_holds head.now body.now rules state.now) known.new }
 {
     let first = 8 * rule;
     let mut place = 0;

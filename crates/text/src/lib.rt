@@ -2,6 +2,8 @@
 // of the buffer, `Listing` of the crate `search` which bytes are put there.
 //
 // The counts of basic steps below are beside those of loading, opening and the run. A listing of 256 lines of 32 atoms takes some 700,000.
+#![tactic(auto)]
+
 mod lines;
 mod put;
 

@@ -1,5 +1,7 @@
 // Which searches are well formed (document 01, "The search", and refusal 34), over words that are lent: whoever has a table prepared tests any number of
 // searches over it.
+#![tactic(auto)]
+
 ghost use Rattle.std.specs.Prelude.{◌≡◌};
 ghost use Rattle.board.specs.Board.{Board};
 ghost use Rattle.prepared.specs.Prepared.{Known};

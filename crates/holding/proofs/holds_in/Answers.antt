@@ -5,7 +5,11 @@ use Rattle.holding.proofs.holds_in.Goals as goal
 
 pub atom_holds-requires : goal.atom_holds-requires
 atom_holds-requires c =
-    (c.requires.0, (c.requires.1, remembered_none (lent_holds c.args.head.now c.args.body.now c.args.rules c.args.state.now) 128))
+    record {
+      sound_rules = c.requires.sound_rules;
+      a_lt_most_atoms = c.requires.a_lt_most_atoms;
+      remembered = remembered_none (lent_holds c.args.head.now c.args.body.now c.args.rules c.args.state.now) 128;
+    }
 
 pub returns : goal.returns
 returns c = c.atom_holds.ensures.value

@@ -1,14 +1,12 @@
 -- `is_choice` meets its contract: no hypothesis passed is of this declaration and has this atom. Assumes nothing.
-use Prim.Native.Nat.{ℕ, ◌≤◌, ◌<◌, ◌-◌}
-use mathlib.Core.Path.{◌≡◌, ◌∙◌}
+use mathlib.Core.Path.{◌∙◌}
 use native.Mathlib.Omega.{arith}
 use borrow.Author.Rules.{rules}
 use borrow.Author.Count.{below_none, below_more}
-use lib.ListN.{get_or}
-use mathlib.Core.Logic.{⊎_elim}
 use mathlib.Core.List.{[]}
 use Rattle.holding.proofs.Laws.Choices.{choice_here, choice_nowhere}
 use Rattle.holding.proofs.is_choice.Goals as goal
+use Rattle.holding.proofs.is_choice.Goals.{then-wide-d+else-atom-k, else-wide-d}
 
 pub loop-k-init : goal.loop-k-init
 loop-k-init c = (omega arith, below_none _)
@@ -22,7 +20,10 @@ returns-then-atom-k c =
 pub loop-k-preserved : goal.loop-k-preserved
 loop-k-preserved c = (
   search rules,
-  below_more _ _ c.loop-k.invariant.1 (⊎_elim (λ w e f. w.2.left f) (λ w e f. w.left (c.wide.ensures.value ∙ e)) c.if-wide-d.branch),
+  below_more _ _ c.loop-k.invariant.1 (elim c.if-wide-d.branch [
+    | then-wide-d+else-atom-k w ↦ λ e f. w.if-atom-k.false f
+    | else-wide-d w ↦ λ e f. w.if-wide-d.false (c.wide.ensures.value ∙ e)
+  ]),
 )
 
 pub returns : goal.returns

@@ -1,13 +1,7 @@
 -- `is_choice` meets its contract: no hypothesis passed is of this declaration and has this atom. Assumes nothing.
 use Prim.Native.Nat.{ℕ, ◌≤◌, ◌<◌, ◌-◌}
-use mathlib.Core.Path.{◌≡◌, ◌∙◌}
-use native.Mathlib.Omega.{arith}
-use borrow.Author.Rules.{rules}
-use borrow.Author.Count.{below_none, below_more}
+use mathlib.Core.Path.{◌≡◌}
 use lib.ListN.{get_or}
-use mathlib.Core.Logic.{⊎_elim}
-use mathlib.Core.List.{[]}
-use Rattle.holding.proofs.Laws.Choices.{choice_here, choice_nowhere}
 use Rattle.holding.proofs.is_choice.Given as goal
 
 abbrev pub invariant-loop-k : goal.invariant-loop-k

@@ -1,14 +1,9 @@
 -- `is_state` meets its contract: every atom passed is of its declaration. Assumes nothing.
-use Prim.Native.Nat.{ℕ, ◌≤◌, ◌<◌, ◌-◌}
 use mathlib.Core.Path.{◌≡◌, sym, ◌∙◌}
-use mathlib.Core.Bool.{true}
 use mathlib.Core.List.{[]}
 use native.Mathlib.Omega.{arith}
-use borrow.Author.Rules.{rules}
-use borrow.Author.Tests.{not-true, not-false}
-use borrow.Author.Count.{below_none, below_more}
-use lib.ListN.{length, get_or}
-use Rattle.board.specs.Board.{declarations_in, declaration, is_atom_of}
+use borrow.Author.Count.{below_none}
+use Rattle.board.specs.Board.{declarations_in}
 use Rattle.board.proofs.Laws.Board.States.{is_state, no_state_length, no_state_at}
 use Rattle.board.proofs.Laws.Lent.{declarations_in-lent}
 use Rattle.board.specs.Table.{hypotheses_in}
@@ -18,7 +13,7 @@ use Rattle.holding.proofs.is_state.Goals.{Start}
 
 -- as many declarations as the hypotheses with these atoms have
 counted : (s : Start) → let a = s.args in a.count ≡ declarations_in (hypotheses_in a.numbers.now a.atom.now [] a.hypotheses)
-counted s = let a = s.args in s.requires.1 ∙ declarations_in-lent a.numbers.now [] a.atom.now [] [] a.hypotheses
+counted s = let a = s.args in s.requires.count_value ∙ declarations_in-lent a.numbers.now [] a.atom.now [] [] a.hypotheses
 
 pub returns-then-state-count : goal.returns-then-state-count
 returns-then-state-count c = let a = c.args in
@@ -30,10 +25,7 @@ loop-i-init c = (omega arith, below_none _)
 pub returns-then-not-is_choice : goal.returns-then-not-is_choice
 returns-then-not-is_choice c = let a = c.args in
     no_state_at (hypotheses_alone (hypotheses_in a.numbers.now a.atom.now [] a.hypotheses)) a.state.now
-    c.loop-i.i (omega arith) (rw (not-true c.is_choice.result c.if-not-is_choice.true) at c.is_choice.ensures)
-
-pub loop-i-preserved : goal.loop-i-preserved
-loop-i-preserved c = (search rules, below_more _ _ c.loop-i.invariant.1 (rw (not-false c.is_choice.result c.if-not-is_choice.false) at c.is_choice.ensures))
+    c.loop-i.i (omega arith) (rw c.if-not-is_choice.true at c.is_choice.ensures)
 
 pub returns : goal.returns
 returns c = let a = c.args in

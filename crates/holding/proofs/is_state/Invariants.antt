@@ -1,18 +1,11 @@
 -- `is_state` meets its contract: every atom passed is of its declaration. Assumes nothing.
 use Prim.Native.Nat.{ℕ, ◌≤◌, ◌<◌, ◌-◌}
-use mathlib.Core.Path.{◌≡◌, sym, ◌∙◌}
+use mathlib.Core.Path.{◌≡◌}
 use mathlib.Core.Bool.{true}
 use mathlib.Core.List.{[]}
-use native.Mathlib.Omega.{arith}
-use borrow.Author.Rules.{rules}
-use borrow.Author.Tests.{not-true, not-false}
-use borrow.Author.Count.{below_none, below_more}
 use lib.ListN.{length, get_or}
-use Rattle.board.specs.Board.{declarations_in, declaration, is_atom_of}
-use Rattle.board.proofs.Laws.Board.States.{is_state, no_state_length, no_state_at}
-use Rattle.board.proofs.Laws.Lent.{declarations_in-lent}
+use Rattle.board.specs.Board.{declaration, is_atom_of}
 use Rattle.board.specs.Table.{hypotheses_in}
-use Rattle.holding.specs.Private.Remembered.{hypotheses_alone}
 use Rattle.holding.proofs.is_state.Given as goal
 
 abbrev pub invariant-loop-i : goal.invariant-loop-i

@@ -2,9 +2,9 @@
 use native.Mathlib.Omega.{arith}
 use mathlib.Core.Path.{◌≡◌, sym, ◌∙◌}
 use mathlib.Core.Bool.{Bool, true, false}
-use mathlib.Core.List.{[]}
-use Prim.Native.Nat.{◌≤◌}
-use borrow.Author.Tests.{not-true, not-false, le-leb, lt-leb}
+use mathlib.Core.List.{List, []}
+use Prim.Native.Nat.{ℕ, ◌<◌, ◌≤◌}
+use borrow.Author.Tests.{le-leb, lt-leb}
 use Rattle.sets.proofs.Laws.Tests.{T_of_true}
 use Rattle.board.specs.Answers.{granted}
 use Rattle.board.specs.Board.{declarations, is_state_of}
@@ -12,6 +12,7 @@ use Rattle.board.specs.Holds.{holds, in_state}
 use Rattle.holding.proofs.Laws.Remembered.{table-sound}
 use Rattle.holding.proofs.Laws.Choices.{is_state_of-lent}
 use Rattle.board.specs.Table.{board_of, is_table}
+use Rattle.board.specs.declared.Table.{Table}
 use Rattle.board.proofs.Laws.Facts.{table-count}
 use Rattle.board.proofs.Laws.Table.Fields.{is_table_stands, is_table_sized}
 use Rattle.board.proofs.Laws.Table.Fields.Parts.{sizes_parts}
@@ -21,64 +22,78 @@ use Rattle.holding.proofs.yes_or_no.Goals.{After-holds_in, After-is_state, Else-
 
 pub returns-then-not-is_table : goal.returns-then-not-is_table
 unfolding told_means yes_or_no
-returns-then-not-is_table c = simp (sym c.is_table.ensures ∙ not-true _ c.if-not-is_table.true)
+returns-then-not-is_table c = simp (sym c.is_table.ensures ∙ c.if-not-is_table.true)
 
 -- ---- what the tests found, test by test
 
 -- some file loads to the table
-accepted : (c : Else-not-is_table) → is_table c.args.t1 ≡ true
-accepted c = sym c.is_table.ensures ∙ not-false _ c.if-not-is_table.false
+accepted : (c : Else-not-is_table) → is_table c.args.t ≡ true
+accepted c = sym c.is_table.ensures ∙ c.if-not-is_table.false
 
-room : (c : Else-not-is_table) → c.args.t1.hypotheses ≤ 128
+room : (c : Else-not-is_table) → c.args.t.hypotheses ≤ 128
 room c =
-    let t = c.args.t1 in
+    let t = c.args.t in
     omega (arith, sizes_parts t (is_table_stands t (T_of_true (accepted c))).sizes)
 
 pub is_state-requires : goal.is_state-requires
 is_state-requires c =
-    (room (goal.at.is_state-requires c).Else-not-is_table, rw (table-count c.args.t1 (T_of_true (accepted (goal.at.is_state-requires c).Else-not-is_table))) at (c.declarations_of-declarations.ensures.by_index [] []))
+    let e = (goal.at.is_state-requires c).Else-not-is_table in
+    record {
+      hypotheses_le_most_atoms = room e;
+      count_value = rw (table-count c.args.t (T_of_true (accepted e))) at (c.declarations_of-declarations.ensures.by_index [] []);
+    }
 
 -- the state's test, said of the board
 state_test : (c : After-is_state) (u : Bool) → c.is_state.result ≡ u → let a = c.args in
-    is_state_of (declarations (board_of a.t1)) a.state.now ≡ u
+    is_state_of (declarations (board_of a.t)) a.state.now ≡ u
 unfolding board_of declarations
-state_test c u e = let t = c.args.t1 in is_state_of-lent t.declaration t.atom t.weight [] t.hypotheses _ ∙ sym c.is_state.ensures ∙ e
+state_test c u e = let t = c.args.t in is_state_of-lent t.declaration t.atom t.weight [] t.hypotheses _ ∙ sym c.is_state.ensures ∙ e
 
 pub returns-then-not-is_state : goal.returns-then-not-is_state
 unfolding told_means yes_or_no
-returns-then-not-is_state c = simp (accepted (goal.at.returns-then-not-is_state c).Else-not-is_table, state_test (goal.at.returns-then-not-is_state c).After-is_state false (not-true _ c.if-not-is_state.true))
+returns-then-not-is_state c =
+    let g = goal.at.returns-then-not-is_state c in
+    simp (accepted g.Else-not-is_table, state_test g.After-is_state false c.if-not-is_state.true)
 
 pub returns-then-t-wide : goal.returns-then-t-wide
 unfolding told_means yes_or_no
 returns-then-t-wide c =
     let a = c.args in
-    simp (accepted (goal.at.returns-then-t-wide c).Else-not-is_table, state_test (goal.at.returns-then-t-wide c).After-is_state true (not-false _ c.if-not-is_state.false), le-leb a.t1.atoms a.atom (omega (arith, c.wide.ensures.value)))
+    let g = goal.at.returns-then-t-wide c in
+    simp (accepted g.Else-not-is_table, state_test g.After-is_state true c.if-not-is_state.false, le-leb a.t.atoms a.atom (omega (arith, c.wide.ensures.value)))
 
 pub holds_in-requires : goal.holds_in-requires
 holds_in-requires c =
-    let t = c.args.t1 in
-    (table-sound t (T_of_true (accepted (goal.at.holds_in-requires c).Else-not-is_table)) (is_table_sized t (T_of_true (accepted (goal.at.holds_in-requires c).Else-not-is_table))).body, omega (arith, sizes_parts t (is_table_stands t (T_of_true (accepted (goal.at.holds_in-requires c).Else-not-is_table))).sizes, c.wide.ensures.value))
+    let t = c.args.t in
+    let right = T_of_true (accepted (goal.at.holds_in-requires c).Else-not-is_table) in
+    record {
+      sound_rules = table-sound t right (is_table_sized t right).body;
+      a_lt_most_atoms = omega (arith, sizes_parts t (is_table_stands t right).sizes, c.wide.ensures.value);
+    }
 
 -- the holding test, said of the board
 holding_test : (c : After-holds_in) (u : Bool) → c.holds_in.result ≡ u
     → let a = c.args in
-    holds (in_state a.state.now) (board_of a.t1) a.atom ≡ u
+    holds (in_state a.state.now) (board_of a.t) a.atom ≡ u
 unfolding board_of holds
 holding_test c u e = sym c.holds_in.ensures ∙ e
 
 -- the three refusals are past, and the answer is the holding test's
-past : (c : After-holds_in) (u : Bool) → c.holds_in.result ≡ u
-    → let a = c.args in
-    yes_or_no a.t1 a.state.now a.atom ≡ granted u
+past : (t : Table) (state : List ℕ) (atom : ℕ) (u : Bool) → is_table t ≡ true → is_state_of (declarations (board_of t)) state ≡ true → atom < t.atoms
+    → holds (in_state state) (board_of t) atom ≡ u → yes_or_no t state atom ≡ granted u
 unfolding yes_or_no
-past c u e =
-    let a = c.args in
-    simp (accepted FIXME{c Else-not-is_table}, state_test FIXME{c After-is_state} true (not-false _ c.if-not-is_state.false), lt-leb a.t1.atoms a.atom (omega (arith, c.wide.ensures.value)), holding_test c u e)
+past t state atom u right stated low held = simp (right, stated, lt-leb t.atoms atom low, held)
 
 pub returns-then-holds_in : goal.returns-then-holds_in
 unfolding told_means
-returns-then-holds_in c = sym (past (goal.at.returns-then-holds_in c).After-holds_in true c.if-holds_in.true)
+returns-then-holds_in c =
+    let g = goal.at.returns-then-holds_in c in
+    sym (past c.args.t _ _ true (accepted g.Else-not-is_table) (state_test g.After-is_state true c.if-not-is_state.false) (omega (arith, c.wide.ensures.value))
+    (holding_test g.After-holds_in true c.if-holds_in.true))
 
 pub returns : goal.returns
 unfolding told_means
-returns c = sym (past (goal.at.returns c).After-holds_in false c.if-holds_in.false)
+returns c =
+    let g = goal.at.returns c in
+    sym (past c.args.t _ _ false (accepted g.Else-not-is_table) (state_test g.After-is_state true c.if-not-is_state.false) (omega (arith, c.wide.ensures.value))
+    (holding_test g.After-holds_in false c.if-holds_in.false))

@@ -1,5 +1,4 @@
 -- `listing` meets its contract: too little room, an accepted file, a refused one. Assumes nothing.
-use borrow.Author.Rules.{rules}
 use native.Mathlib.Omega.{arith}
 use lib.Dec.{T}
 use lib.Pow.{are_bytes}
@@ -16,11 +15,12 @@ bytes c = are_bytes_of c.args.file.now (λ i. omega (arith, c.type_inv.file i))
 
 pub put_asked-requires : goal.put_asked-requires
 put_asked-requires c =
-    let l = c.load-loading in (
-      loaded-table c.args.file.now c.args.input.now l.result l.ensures (bytes (goal.at.put_asked-requires c).After-shared_slice_known-1)
-          c.in-Accepted.is,
-      omega arith,
-    )
+    let l = c.load-loading in
+    record {
+      t = loaded-table c.args.file.now c.args.input.now l.result l.ensures (bytes (goal.at.put_asked-requires c).After-shared_slice_known-1)
+          c.in-Accepted.is;
+      most_text_in_bounds = omega arith;
+    }
 
 pub returns-in-Accepted : goal.returns-in-Accepted
 returns-in-Accepted c =
@@ -33,12 +33,11 @@ returns-in-Accepted c =
 pub returns-in-Refused : goal.returns-in-Refused
 returns-in-Refused c =
     let l = c.load-loading in
-    let a = c.answer-1.given in
     lent-put (omega arith)
-    (rw (loaded-refused c.args.file.now c.args.input.now l.result l.ensures a.0.0 a.0.1.0 a.1) c.put_refused_file.ensures)
+    (rw (loaded-refused c.args.file.now c.args.input.now l.result l.ensures c.in-Refused.number c.in-Refused.place c.in-Refused.is) c.put_refused_file.ensures)
 
 pub returns-then-text-lt-TEXT_BYTES : goal.returns-then-text-lt-TEXT_BYTES
 returns-then-text-lt-TEXT_BYTES c = lent_short (omega arith)
 
 pub put_refused_file-requires : goal.put_refused_file-requires
-put_refused_file-requires c = let a = c.answer-1.given.0 in omega (arith, refused-file-length a.0 a.1.0 (omega arith) (omega arith))
+put_refused_file-requires c = omega (arith, refused-file-length c.in-Refused.number c.in-Refused.place (omega arith) (omega arith))

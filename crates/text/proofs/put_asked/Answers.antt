@@ -1,5 +1,4 @@
 -- `put_asked` meets its contract: an input that is too short, and any other. Assumes nothing.
-use borrow.Author.Rules.{rules}
 use native.Mathlib.Omega.{arith}
 use Rattle.board.specs.Table.{board_of}
 use Rattle.board.proofs.Promise.{is_table-stored}
@@ -14,8 +13,8 @@ pub returns : goal.returns
 returns c =
     let count = c.wide-end in
     rw (
-      asked-whole (board_of c.args.t) c.args.input.now count.result count.ensures.0 (omega (arith, count.ensures.0)),
-      ← is_table-stored c.args.t c.requires.0,
+      asked-whole (board_of c.args.t) c.args.input.now count.result count.ensures.value (omega (arith, count.ensures.value)),
+      ← is_table-stored c.args.t c.requires.t,
       ← c.wide16.ensures.value,
       ← c.wide16-2.ensures.value,
     ) c.put_opened.ensures

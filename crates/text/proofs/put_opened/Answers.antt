@@ -1,12 +1,11 @@
 -- `put_opened` meets its contract: what is printed of the run of an accepted question, and of a refused one. Assumes nothing.
-use borrow.Author.Rules.{rules}
 use native.Mathlib.Omega.{arith}
 use Rattle.text.proofs.Laws.Answered.{opened-accepted, opened-length, opened-refused}
 use Rattle.text.proofs.put_opened.Goals as goal
 
 pub put_run-requires : goal.put_run-requires
 put_run-requires c =
-    let o = c.«open» in
+    let o = c.open-opening in
     record {
       t = c.requires.t;
       has_room = omega (arith, opened-length c.args.t c.requires.t c.args.question.now o.result o.ensures c.args.allowance c.in-Accepted.is (omega arith));
@@ -14,13 +13,12 @@ put_run-requires c =
 
 pub returns-in-Accepted : goal.returns-in-Accepted
 returns-in-Accepted c =
-    let o = c.«open» in
+    let o = c.open-opening in
     rw (opened-accepted c.args.t c.requires.t c.args.question.now o.result o.ensures c.args.allowance c.in-Accepted.is)
     c.put_run.ensures
 
 pub returns-in-Refused : goal.returns-in-Refused
 returns-in-Refused c =
-    let o = c.«open» in
-    let a = c.answer-1.given in
-    rw (opened-refused c.args.t c.requires.t c.args.question.now o.result o.ensures c.args.allowance a.0.0 a.1)
+    let o = c.open-opening in
+    rw (opened-refused c.args.t c.requires.t c.args.question.now o.result o.ensures c.args.allowance c.in-Refused.number c.in-Refused.is)
     c.put_refused.ensures

@@ -1,5 +1,4 @@
 -- `put_run` meets its contract: W, the lines, the last line. Assumes nothing.
-use borrow.Author.Rules.{rules}
 use native.Mathlib.Omega.{arith}
 use mathlib.Core.Path.{◌≡◌, ap}
 use mathlib.Core.List.{[], ◌++◌}

@@ -11,7 +11,7 @@ use Rattle.sets.specs.Lists.{any, keep, distinct}
 use Rattle.sets.proofs.Laws.Lists.Ends.{keep_append}
 use Rattle.board.specs.Board.{Board, Hypothesis, Rule, declarations_in, declaration, is_atom_of, is_hypothesis}
 use Rattle.board.proofs.Laws.Board.Members.{declarations_in-member, declarations-of}
-use Rattle.board.specs.File.{hypothesis, rule}
+use Rattle.board.specs.File.{rule}
 use Rattle.board.specs.Load.{no_board, first_failing, field_checks, filled}
 use Rattle.board.proofs.Laws.Load.Checks.{count-passes, hypothesis-passes, rule-passes, finish-passes}
 use Rattle.board.proofs.Laws.Load.Each.{each_of}

@@ -9,7 +9,7 @@ use Rattle.sets.specs.Lists.{pad}
 use Rattle.sets.proofs.Laws.Lists.Flatten.{flatten_map_snoc}
 use Rattle.sets.proofs.Laws.Lists.Padding.{set-pad, splice_pad}
 use Rattle.board.specs.Sizes.{most_atoms, most_rules, most_body}
-use Rattle.board.specs.Board.{Board, Hypothesis, Rule, declaration}
+use Rattle.board.specs.Board.{Board, Hypothesis, Rule}
 use Rattle.board.specs.File.{count, hypothesis, rule}
 use Rattle.board.specs.Load.{filled, filled_first, taking}
 use Rattle.board.proofs.Laws.Load.Each.{each_keeps}

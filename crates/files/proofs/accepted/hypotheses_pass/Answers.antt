@@ -4,8 +4,7 @@ use native.Mathlib.Numerals.{add-one}
 use mathlib.Core.Path.{◌≡◌, refl, sym, ◌∙◌}
 use mathlib.Core.Bool.{true≢false}
 use mathlib.Core.List.{[]}
-use Prim.Native.Nat.{pred, ◌-◌, ◌≤◌}
-use lib.Dec.{T}
+use Prim.Native.Nat.{pred}
 use lib.ListN.{get_or}
 use Rattle.sets.proofs.Laws.Tests.{true_of_T}
 use Rattle.board.specs.Board.{declarations_in}
@@ -13,9 +12,8 @@ use Rattle.board.specs.File.{hypothesis}
 use Rattle.board.specs.Load.{first_failing, field_checks, taking}
 use Rattle.board.specs.Table.{hypothesis_in, hypotheses_in, board_in}
 use Rattle.board.specs.Private.Passes.{each_passes}
-use Rattle.files.specs.Private.Seen.{SeenOf}
 use Rattle.board.proofs.Laws.Lent.{hypotheses_in-zero, hypotheses_in-suc}
-use Rattle.files.proofs.Laws.Passing.{first_pass, first_pass-more, first_pass-fails}
+use Rattle.files.proofs.Laws.Passing.{first_pass-more, first_pass-fails}
 use Rattle.board.proofs.Laws.Load.{hypothesis_passes-of}
 use Rattle.board.proofs.Laws.Load.Hypotheses.{hypothesis_passes-zero, hypothesis_passes-weight, hypotheses_sizes}
 use Rattle.files.proofs.accepted.hypotheses_pass.Goals as goal
@@ -76,21 +74,3 @@ pub returns : goal.returns
 returns c =
     let all_of : c.loop-i.i ≡ c.args.n = omega arith in
     record { all = sym (true_of_T _ (rw all_of at c.loop-i.invariant.2)); seen = λ e. rw all_of at c.loop-i.invariant.1 }
-
-pub bounds-numbers-i : goal.bounds-numbers-i
-bounds-numbers-i c = omega arith
-
-pub bounds-atom-i : goal.bounds-atom-i
-bounds-atom-i c = omega arith
-
-pub offset_bounds-weight-i : goal.offset_bounds-weight-i
-offset_bounds-weight-i c = omega arith
-
-pub bounds-weight-i : goal.bounds-weight-i
-bounds-weight-i c = omega arith
-
-pub overflow_add-i : goal.overflow_add-i
-overflow_add-i c = omega arith
-
-pub loop-i-smaller : goal.loop-i-smaller
-loop-i-smaller c = omega arith

@@ -1,23 +1,9 @@
 -- `hypotheses_pass` meets its contract: those passed so far pass, and what is known of them is kept. Assumes nothing.
-use native.Mathlib.Omega.{arith}
-use native.Mathlib.Numerals.{add-one}
-use mathlib.Core.Path.{◌≡◌, refl, sym, ◌∙◌}
-use mathlib.Core.Bool.{true≢false}
-use mathlib.Core.List.{[]}
-use Prim.Native.Nat.{pred, ◌-◌, ◌≤◌}
+use Prim.Native.Nat.{◌-◌, ◌≤◌}
 use lib.Dec.{T}
-use lib.ListN.{get_or}
-use Rattle.sets.proofs.Laws.Tests.{true_of_T}
-use Rattle.board.specs.Board.{declarations_in}
-use Rattle.board.specs.File.{hypothesis}
-use Rattle.board.specs.Load.{first_failing, field_checks, taking}
-use Rattle.board.specs.Table.{hypothesis_in, hypotheses_in, board_in}
-use Rattle.board.specs.Private.Passes.{each_passes}
+use Rattle.board.specs.Table.{hypotheses_in}
 use Rattle.files.specs.Private.Seen.{SeenOf}
-use Rattle.board.proofs.Laws.Lent.{hypotheses_in-zero, hypotheses_in-suc}
-use Rattle.files.proofs.Laws.Passing.{first_pass, first_pass-more, first_pass-fails}
-use Rattle.board.proofs.Laws.Load.{hypothesis_passes-of}
-use Rattle.board.proofs.Laws.Load.Hypotheses.{hypothesis_passes-zero, hypothesis_passes-weight, hypotheses_sizes}
+use Rattle.files.proofs.Laws.Passing.{first_pass}
 use Rattle.files.proofs.accepted.hypotheses_pass.Given as goal
 
 abbrev pub invariant-loop-i : goal.invariant-loop-i

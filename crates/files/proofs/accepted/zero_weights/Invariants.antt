@@ -1,15 +1,10 @@
 -- `zero_weights` meets its contract: the digits of the weights passed, and what is left to look at, decide. Assumes nothing.
-use borrow.Author.Rules.{rules}
-use native.Mathlib.Omega.{arith}
-use native.Mathlib.Numerals.{add-one}
-use mathlib.Core.Path.{◌≡◌, refl, sym, ap, ◌∙◌}
-use mathlib.Core.Bool.{◌&&◌, and-true}
-use Prim.Native.Nat.{ℕ, ◌-◌}
-use lib.Bits.{bit_or}
+use mathlib.Core.Path.{◌≡◌}
+use mathlib.Core.Bool.{◌&&◌}
+use Prim.Native.Nat.{◌-◌}
 use lib.Dec.{eqb}
-use lib.ListN.{length, get_or}
+use lib.ListN.{length}
 use Rattle.sets.specs.Lists.{zero_from}
-use Rattle.sets.proofs.Laws.Lists.Padding.{zero_from_past, zero_from-more}
 use Rattle.files.proofs.accepted.zero_weights.Given as goal
 
 abbrev pub invariant-loop-i : goal.invariant-loop-i

@@ -1,5 +1,4 @@
 -- `field_refusal` meets its contract: each kind of record has its own function. Assumes nothing.
-use borrow.Author.Rules.{rules}
 use Rattle.board.specs.EntryPoints.{record_means}
 use Rattle.board.specs.Load.{is_finish}
 use Rattle.files.specs.Private.Taking.{field_refusal}

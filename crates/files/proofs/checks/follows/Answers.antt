@@ -1,5 +1,4 @@
 -- `follows` meets its contract: its two tests are those of check 5. Assumes nothing.
-use native.Mathlib.Omega.{arith}
 use native.Mathlib.Numerals.{add-one}
 use mathlib.Core.Path.{sym, ap, ◌∙◌}
 use mathlib.Core.Bool.{Bool, ◌||◌}
@@ -12,6 +11,3 @@ returns-then-number-declarations c = let a = c.args in eq-eqb _ _ c.if-number-de
 
 pub returns-else-number-declarations : goal.returns-else-number-declarations
 returns-else-number-declarations c = simp (ne_eqb _ _ (rw add-one at c.if-number-declarations.false))
-
-pub overflow_add-number : goal.overflow_add-number
-overflow_add-number c = omega arith

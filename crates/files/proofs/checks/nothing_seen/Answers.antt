@@ -1,5 +1,4 @@
 -- `nothing_seen` meets its contract: no hypothesis has no declaration and no atom. Assumes nothing.
-use borrow.Author.Rules.{rules}
 use Rattle.files.proofs.Laws.Seen.{seen_none}
 use Rattle.files.proofs.checks.nothing_seen.Goals as goal
 

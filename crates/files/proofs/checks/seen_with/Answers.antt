@@ -1,5 +1,4 @@
 -- `seen_with` meets its contract: a hypothesis that passes is the first of the next declaration or one more of the last. Assumes nothing.
-use borrow.Author.Rules.{rules}
 use native.Mathlib.Omega.{arith}
 use mathlib.Core.Path.{sym, ◌∙◌}
 use mathlib.Core.Logic.{⊎_elim}

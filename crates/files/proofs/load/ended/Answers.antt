@@ -1,5 +1,4 @@
 -- `ended` meets its contract: W, cut off above 10^15, passes 10^15 exactly if W does. Assumes nothing.
-use borrow.Author.Rules.{rules}
 use native.Mathlib.Omega.{arith}
 use Prim.Native.Nat.{◌+◌, min}
 use mathlib.Core.Path.{◌≡◌}
@@ -16,9 +15,9 @@ use Rattle.files.proofs.load.ended.Goals as goal
 use Rattle.files.proofs.load.ended.Goals.{After-whole_weight}
 
 -- W, as the code sees it
-weight : (c : After-whole_weight) (b : Board) → c.args.t1 ≡ table_of b → c.whole_weight.result ≡ min (W b) (most_w + 1)
+weight : (c : After-whole_weight) (b : Board) → c.args.t ≡ table_of b → c.whole_weight.result ≡ min (W b) (most_w + 1)
 weight c b e =
-    let t = c.args.t1 in
+    let t = c.args.t in
     let whole : min t.hypotheses 128 ≡ t.hypotheses = omega arith in
     rw (whole, board_in-table_of b t e) at (c.whole_weight.ensures t.atoms t.atom b.rules)
 

@@ -1,5 +1,4 @@
 -- `passed_record` meets its contract: its tests, in their order, are those of `passed_record`. Assumes nothing.
-use borrow.Author.Rules.{rules}
 use mathlib.Core.Path.{◌≡◌, sym, ap, ◌∙◌}
 use mathlib.Core.Bool.{false}
 use lib.ListN.{length}
@@ -29,9 +28,8 @@ returns-in_default c b e l k =
 
 -- the record that was read
 module _ (f : After-field_refusal-number) where
-
   abbrev read : Found
-  read = let g = f.answer-1.given in record { found = record_means g.0.0; next = g.0.1.0 }
+  read = record { found = record_means f.in-At.found; next = f.in-At.field-1 }
 
   read_it : read_record f.args.file.now f.args.at ≡ accepted read
   unfolding read_means
@@ -40,9 +38,13 @@ module _ (f : After-field_refusal-number) where
 pub returns-then-number-ne0 : goal.returns-then-number-ne0
 unfolding read_means
 returns-then-number-ne0 c b e l k =
-    sym (passed_failing _ _ b (read (goal.at.returns-then-number-ne0 c).After-field_refusal-number) (placed (goal.at.returns-then-number-ne0 c).After-read_record-answer b e l) (read_it (goal.at.returns-then-number-ne0 c).After-field_refusal-number) _ (sym (c.field_refusal-number.ensures b e l k)) c.if-number-ne0.true)
+    let at = goal.at.returns-then-number-ne0 c in
+    let f = at.After-field_refusal-number in
+    sym (passed_failing _ _ b (read f) (placed at.After-read_record-answer b e l) (read_it f) _ (sym (c.field_refusal-number.ensures b e l k)) c.if-number-ne0.true)
 
 pub returns : goal.returns
 unfolding read_means
 returns c b e l k =
-    sym (passed-passing _ _ b (read (goal.at.returns c).After-field_refusal-number) (placed (goal.at.returns c).After-read_record-answer b e l) (read_it (goal.at.returns c).After-field_refusal-number) (sym (c.field_refusal-number.ensures b e l k) ∙ c.if-number-ne0.false))
+    let at = goal.at.returns c in
+    let f = at.After-field_refusal-number in
+    sym (passed-passing _ _ b (read f) (placed at.After-read_record-answer b e l) (read_it f) (sym (c.field_refusal-number.ensures b e l k) ∙ c.if-number-ne0.false))

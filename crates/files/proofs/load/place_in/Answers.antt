@@ -1,5 +1,4 @@
 -- `place_in` meets its contract, case by case. Assumes nothing.
-use borrow.Author.Rules.{rules}
 use mathlib.Core.Path.{sym, ap}
 use Rattle.board.specs.EntryPoints.{read_means}
 use Rattle.files.specs.Private.Taking.{place_in}

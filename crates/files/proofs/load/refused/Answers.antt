@@ -1,5 +1,4 @@
 -- `refused` meets its contract: the answer it makes, and the zero table. Assumes nothing.
-use borrow.Author.Rules.{rules}
 use mathlib.Core.Path.{refl}
 use Rattle.board.specs.Table.{table_in}
 use Rattle.board.specs.EntryPoints.{outcome_of, loaded_means}

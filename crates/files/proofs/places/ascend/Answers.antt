@@ -2,15 +2,12 @@
 use native.Mathlib.Omega.{arith}
 use native.Mathlib.Numerals.{add-one}
 use mathlib.Core.Path.{◌≡◌, ◌∙◌}
-use mathlib.Core.Logic.{⊎_elim}
-use mathlib.Core.Bool.{◌&&◌}
-use Rattle.sets.specs.Lists.{ascending}
 use Rattle.board.specs.Sizes.{most_body}
 use Rattle.board.specs.File.{low_bytes}
 use Rattle.board.proofs.Laws.File.{low_bytes_pop}
-use Rattle.board.specs.Load.{filled, filled_first}
 use Rattle.files.proofs.Laws.Places.{climbs, climbs_means, climbs-low, climbs_on, climbs_empty}
 use Rattle.files.proofs.places.ascend.Goals as goal
+use Rattle.files.proofs.places.ascend.Goals.{then-place-ne255+else-place-least, else-place-ne255}
 
 pub loop-left-init : goal.loop-left-init
 loop-left-init c = climbs_means (low_bytes most_body c.args.places)
@@ -25,19 +22,13 @@ loop-left-preserved c =
     let l = c.loop-left in
     l.invariant
     ∙ rw (low_bytes_pop l.left l.rest (omega arith), add-one)
-    (⊎_elim (λ w. climbs_on _ _ _ w.0.taken w.1.left) (λ w. climbs_empty _ _ _ w.left) c.if-place-ne255.branch)
+    (elim c.if-place-ne255.branch [
+      | then-place-ne255+else-place-least w ↦ climbs_on _ _ _ w.if-place-ne255.true w.if-place-least.false
+      | else-place-ne255 w ↦ climbs_empty _ _ _ w.if-place-ne255.false
+    ])
 
 pub returns : goal.returns
 unfolding low_bytes climbs
 returns c =
-    let none : c.loop-left.false ≡ 0 = omega arith in
+    let none : c.loop-left.left ≡ 0 = omega arith in
     rw (c.loop-left.invariant, none)
-
-pub overflow_add-least : goal.overflow_add-least
-overflow_add-least c = omega arith
-
-pub overflow_sub-left : goal.overflow_sub-left
-overflow_sub-left c = omega arith
-
-pub loop-left-smaller : goal.loop-left-smaller
-loop-left-smaller c = omega arith

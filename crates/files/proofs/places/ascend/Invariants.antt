@@ -1,15 +1,11 @@
 -- `ascend` meets its contract: the places not yet passed go on as those passed ask. Assumes nothing.
-use native.Mathlib.Omega.{arith}
-use native.Mathlib.Numerals.{add-one}
-use mathlib.Core.Path.{◌≡◌, ◌∙◌}
-use mathlib.Core.Logic.{⊎_elim}
+use mathlib.Core.Path.{◌≡◌}
 use mathlib.Core.Bool.{◌&&◌}
 use Rattle.sets.specs.Lists.{ascending}
 use Rattle.board.specs.Sizes.{most_body}
 use Rattle.board.specs.File.{low_bytes}
-use Rattle.board.proofs.Laws.File.{low_bytes_pop}
 use Rattle.board.specs.Load.{filled, filled_first}
-use Rattle.files.proofs.Laws.Places.{climbs, climbs_means, climbs-low, climbs_on, climbs_empty}
+use Rattle.files.proofs.Laws.Places.{climbs}
 use Rattle.files.proofs.places.ascend.Given as goal
 
 abbrev pub invariant-loop-left : goal.invariant-loop-left

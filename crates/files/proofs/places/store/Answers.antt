@@ -3,9 +3,9 @@
 use native.Mathlib.Omega.{arith}
 use native.Mathlib.Numerals.{add-one}
 use mathlib.Core.Path.{◌≡◌, refl, sym, ◌∙◌}
-use Prim.Native.Nat.{◌+◌, ◌-◌, ◌≤◌}
-use lib.ListN.{length, length-set}
-use lib.Seq.{sets, sets-eq}
+use Prim.Native.Nat.{◌+◌, ◌-◌}
+use lib.ListN.{length-set}
+use lib.Seq.{sets-eq}
 use Rattle.board.specs.Sizes.{most_body}
 use Rattle.board.specs.File.{low_bytes}
 use Rattle.board.proofs.Laws.File.{low_bytes_pop}
@@ -36,18 +36,3 @@ returns c =
     let a = c.args in
     let none : a.start + 8 - l.at ≡ 0 = omega arith in
     sym (rw none at l.invariant.2) ∙ sets-eq (low_bytes most_body a.places) a.bytes.now a.start (omega arith)
-
-pub overflow_add-end : goal.overflow_add-end
-overflow_add-end c = omega arith
-
-pub overflow_cast-bytes : goal.overflow_cast-bytes
-overflow_cast-bytes c = omega arith
-
-pub bounds-bytes-at : goal.bounds-bytes-at
-bounds-bytes-at c = omega arith
-
-pub overflow_add-at : goal.overflow_add-at
-overflow_add-at c = omega arith
-
-pub loop-at-smaller : goal.loop-at-smaller
-loop-at-smaller c = omega arith

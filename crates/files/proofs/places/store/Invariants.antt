@@ -1,14 +1,11 @@
 -- `store` meets its contract: storing what is left of the places from `at` on gives what storing all of them from `start` on would give.
 -- Assumes nothing.
-use native.Mathlib.Omega.{arith}
-use native.Mathlib.Numerals.{add-one}
-use mathlib.Core.Path.{◌≡◌, refl, sym, ◌∙◌}
-use Prim.Native.Nat.{◌+◌, ◌-◌, ◌≤◌}
-use lib.ListN.{length, length-set}
-use lib.Seq.{sets, sets-eq}
+use mathlib.Core.Path.{◌≡◌}
+use Prim.Native.Nat.{◌-◌, ◌≤◌}
+use lib.ListN.{length}
+use lib.Seq.{sets}
 use Rattle.board.specs.Sizes.{most_body}
 use Rattle.board.specs.File.{low_bytes}
-use Rattle.board.proofs.Laws.File.{low_bytes_pop}
 use Rattle.files.proofs.places.store.Given as goal
 
 abbrev pub invariant-loop-at : goal.invariant-loop-at

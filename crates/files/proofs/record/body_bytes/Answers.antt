@@ -1,5 +1,6 @@
 -- `body_bytes` meets its contract: each arm is a case of `body_bytes`. Assumes nothing.
-use borrow.Author.Tests.{ne_eqb}
+use Rattle.std.proofs.Common.{arith}
+use Rattle.std.proofs.lemmas.Bool.Decides.{nat_tests}
 use Rattle.board.specs.File.{body_bytes}
 use Rattle.files.proofs.record.body_bytes.Goals as goal
 
@@ -17,4 +18,4 @@ returns-in-3 c = rw c.in-3.is
 
 pub returns-in_default : goal.returns-in_default
 unfolding body_bytes
-returns-in_default c = simp (ne_eqb _ _ c.in_default.rest.1, ne_eqb _ _ c.in_default.rest.0.1, ne_eqb _ _ c.in_default.rest.0.0.1)
+returns-in_default c = grind (arith, nat_tests)

@@ -1,6 +1,5 @@
 -- `eight_bytes` meets its contract: the bytes passed, from the last place down, are the low bytes of what is packed.
 -- Assumes nothing.
-use borrow.Author.Rules.{rules}
 use native.Mathlib.Omega.{arith}
 use Prim.Native.Nat.{ℕ, zero, suc, ◌+◌, ◌-◌, ◌*◌, ◌^◌, ◌≤◌, ◌<◌}
 use mathlib.Core.Path.{◌≡◌, refl}
@@ -58,17 +57,5 @@ returns c =
     let here : at + 0 ≡ at = omega arith in
     rw here at (rw none at c.loop-i.invariant.2)
 
-pub overflow_sub-i : goal.overflow_sub-i
-overflow_sub-i c = omega arith
-
 pub overflow_mul-packed : goal.overflow_mul-packed
 overflow_mul-packed c = omega (arith, room c.loop-i.i c.loop-i.packed (omega arith) (omega arith))
-
-pub overflow_add-at : goal.overflow_add-at
-overflow_add-at c = omega arith
-
-pub bounds-file-at : goal.bounds-file-at
-bounds-file-at c = omega arith
-
-pub loop-i-smaller : goal.loop-i-smaller
-loop-i-smaller c = omega arith

@@ -1,15 +1,9 @@
 -- `eight_bytes` meets its contract: the bytes passed, from the last place down, are the low bytes of what is packed.
 -- Assumes nothing.
-use borrow.Author.Rules.{rules}
-use native.Mathlib.Omega.{arith}
-use Prim.Native.Nat.{ℕ, zero, suc, ◌+◌, ◌-◌, ◌*◌, ◌^◌, ◌≤◌, ◌<◌}
-use mathlib.Core.Path.{◌≡◌, refl}
-use mathlib.Core.List.{List}
-use lib.ListN.{length, get_or, take, drop}
-use lib.Arith.{digits_lt}
-use lib.Pow.{pow_mono, pow-add}
+use Prim.Native.Nat.{◌+◌, ◌-◌, ◌*◌, ◌^◌, ◌≤◌, ◌<◌}
+use mathlib.Core.Path.{◌≡◌}
+use lib.ListN.{take, drop}
 use Rattle.board.specs.File.{low_bytes}
-use Rattle.board.proofs.Laws.File.{low_bytes_push, take-drop-cons}
 use Rattle.files.proofs.record.eight_bytes.Given as goal
 
 abbrev pub invariant-loop-i : goal.invariant-loop-i

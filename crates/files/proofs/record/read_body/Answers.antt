@@ -1,10 +1,9 @@
 -- `read_body` meets its contract: each arm is a case of `record_of`, and the body's bytes are there. Assumes nothing.
 use native.Mathlib.Omega.{arith}
-use borrow.Author.Tests.{ne_eqb}
+use Rattle.std.proofs.lemmas.Bool.Decides.{nat_tests}
 use Rattle.board.specs.File.{record_of}
 use Rattle.board.proofs.Laws.File.{body_bytes-count, body_bytes-hypothesis, body_bytes-rule}
 use Rattle.board.specs.EntryPoints.{record_means}
-use borrow.Author.Rules.{rules}
 use Rattle.files.proofs.record.read_body.Goals as goal
 
 pub returns-in-1 : goal.returns-in-1
@@ -21,7 +20,7 @@ returns-in-3 c = rw (c.in-3.is, c.eight_bytes.ensures)
 
 pub returns-in_default : goal.returns-in_default
 unfolding record_means record_of
-returns-in_default c = simp (ne_eqb _ _ c.in_default.rest.1, ne_eqb _ _ c.in_default.rest.0.1, ne_eqb _ _ c.in_default.rest.0.0.1)
+returns-in_default c = grind (arith, nat_tests)
 
 pub bounds-file-at : goal.bounds-file-at
 bounds-file-at c = omega (arith, body_bytes-count c.in-1.is)

@@ -6,8 +6,6 @@ use lib.ListN.{get_or}
 use Rattle.board.specs.File.{known_kind, next_place}
 use Rattle.board.proofs.Laws.File.{body_bytes-le, read_past, read_unknown, read_short, read_whole}
 use Rattle.board.specs.EntryPoints.{read_means}
-use borrow.Author.Rules.{rules}
-use borrow.Author.Tests.{not-true, not-false}
 use Rattle.files.proofs.record.read_record.Goals as goal
 use Rattle.files.proofs.record.read_record.Goals.{Else-not-known_kind}
 
@@ -19,11 +17,11 @@ pub returns-then-not-known_kind : goal.returns-then-not-known_kind
 unfolding read_means
 returns-then-not-known_kind c =
     let a = c.args in
-    sym (read_unknown a.file.now a.at (omega arith) (sym c.known_kind.ensures ∙ not-true _ c.if-not-known_kind.true))
+    sym (read_unknown a.file.now a.at (omega arith) (sym c.known_kind.ensures ∙ c.if-not-known_kind.true))
 
 -- a kind that was not refused is known
 kind_known : (c : Else-not-known_kind) → let a = c.args in known_kind (get_or a.file.now a.at 0) ≡ true
-kind_known c = sym c.known_kind.ensures ∙ not-false _ c.if-not-known_kind.false
+kind_known c = sym c.known_kind.ensures ∙ c.if-not-known_kind.false
 
 pub overflow_add-next-2 : goal.overflow_add-next-2
 overflow_add-next-2 c = omega (arith, c.body_bytes.ensures, body_bytes-le (get_or c.args.file.now c.args.at 0))

@@ -1,5 +1,4 @@
 -- `member` meets its contract: the digit looked at is the atom's, in the word that the atom belongs to. Assumes nothing.
-use borrow.Author.Rules.{rules}
 use native.Mathlib.Omega.{arith}
 use Prim.Native.Nat.{◌-◌}
 use mathlib.Core.Path.{sym, ◌∙◌}

@@ -1,5 +1,4 @@
 -- `with` meets its contract: the atom goes into the word that it belongs to. Assumes nothing.
-use borrow.Author.Rules.{rules}
 use native.Mathlib.Omega.{arith}
 use mathlib.Core.Path.{sym}
 use Rattle.sets.specs.Masks.{mask_means}

@@ -1,5 +1,4 @@
 -- `without` meets its contract: the atom is cleared in the word that it belongs to. Assumes nothing.
-use borrow.Author.Rules.{rules}
 use native.Mathlib.Omega.{arith}
 use mathlib.Core.Path.{sym}
 use Rattle.sets.proofs.Laws.Masks.{without-low-word, without-high-word, member_past}

@@ -1,13 +1,7 @@
 -- `put_atoms` meets its contract: the texts of the atoms below `a` are put. Assumes nothing.
-use borrow.Author.Rules.{rules}
-use native.Mathlib.Omega.{arith}
-use Prim.Native.Nat.{ℕ, ◌≤◌, ◌-◌}
-use mathlib.Core.Path.{◌≡◌}
-use mathlib.Core.List.{List}
-use Rattle.sets.specs.Sets.{most_atoms}
+use Prim.Native.Nat.{◌≤◌, ◌-◌}
 use Rattle.sets.specs.Masks.{mask_means}
 use Rattle.text.specs.Private.Putting.{PutAs, texts_below, atom_text}
-use Rattle.text.proofs.Laws.Texts.{texts_none, texts_next, texts_put, atoms_texts}
 use Rattle.text.proofs.lines.put_atoms.Given as goal
 
 abbrev pub invariant-loop-a : goal.invariant-loop-a

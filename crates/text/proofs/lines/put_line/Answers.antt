@@ -1,5 +1,4 @@
 -- `put_line` meets its contract: the weight, the atoms, the line feed. Assumes nothing.
-use borrow.Author.Rules.{rules}
 use native.Mathlib.Omega.{arith}
 use lib.ListN.{length-append}
 use Rattle.search.specs.Listing.{bytes_of, line_text}

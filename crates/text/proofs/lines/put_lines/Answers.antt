@@ -1,7 +1,6 @@
 -- `put_lines` meets its contract: the texts of the first `i` lines are put. Assumes nothing.
-use borrow.Author.Rules.{rules}
 use native.Mathlib.Omega.{arith}
-use Prim.Native.Nat.{ℕ, ◌≤◌, ◌-◌}
+use Prim.Native.Nat.{ℕ}
 use mathlib.Core.Path.{◌≡◌, sym, ap}
 use mathlib.Core.List.{List}
 use Rattle.sets.specs.Masks.{mask_means}
@@ -10,7 +9,6 @@ use Rattle.search.specs.Layout.{line_in}
 use Rattle.search.specs.Listing.{line_text}
 use Rattle.search.specs.Order.{Entry, Line, line_with, finished}
 use Rattle.search.specs.declared.order.Entry.{Entry as EntryCode}
-use Rattle.text.specs.Private.Putting.{PutAs, lines_text}
 use Rattle.text.proofs.Laws.Texts.{texts_none, texts_next, texts_put}
 use Rattle.text.proofs.lines.put_lines.Goals as goal
 use Rattle.text.proofs.lines.put_lines.Goals.{Start}

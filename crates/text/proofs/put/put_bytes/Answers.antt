@@ -1,12 +1,10 @@
 -- `put_bytes` meets its contract: the bytes so far are a piece. Assumes nothing.
-use borrow.Author.Rules.{rules}
 use native.Mathlib.Nat.{add-zero}
 use native.Mathlib.Numerals.{add-one}
 use native.Mathlib.Omega.{arith}
-use Prim.Native.Nat.{◌+◌, ◌≤◌, ◌<◌, ◌-◌}
-use lib.ListN.{length, take}
+use Prim.Native.Nat.{◌≤◌, ◌<◌}
+use lib.ListN.{length}
 use lib.Seq.{take-suc, take_all}
-use Rattle.text.specs.Private.Putting.{PutAs}
 use Rattle.text.proofs.Laws.Putting.{put-none, put_byte, put_both}
 use Rattle.text.proofs.put.put_bytes.Goals as goal
 

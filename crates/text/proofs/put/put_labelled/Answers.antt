@@ -1,5 +1,4 @@
 -- `put_labelled` meets its contract: the label, then the number. Assumes nothing.
-use borrow.Author.Rules.{rules}
 use native.Mathlib.Omega.{arith}
 use lib.ListN.{length-append}
 use Rattle.text.proofs.Laws.Putting.{put_both}
