@@ -11,14 +11,14 @@ DESTDIR =
 INSTALL = install
 
 archive = target/libvilthomm.a
-sources = $(shell find crates -name '*.rt' -o -name '*.antt')
+sources = $(shell find crates -name out -prune -o '(' -name '*.rt' -o -name '*.antt' ')' -print)
 version = $(shell sed -n 's/^.define VILTHOMM_VERSION "\(.*\)"$$/\1/p' include/vilthomm.h)
 below_prefix = $(patsubst $(PREFIX)/%,$${prefix}/%,$(1))
 
 all: $(archive)
 
-$(archive): include/vilthomm.h tools/archive crates.txt $(sources)
-	rt staticlib firmware
+$(archive): include/vilthomm.h tools/archive tools/staticlib crates.txt $(sources)
+	tools/staticlib firmware
 	tools/archive
 
 install: $(archive)

@@ -45,7 +45,7 @@
      vilthomm_listing       load's, open's and run's, 700,000 more       149.6  (149.6)
 
    The bound of a step is that of an atom with 256 rules. `bench/run` measures, in processor time on a current x86-64, along whole stretches at 480 to 512
-   entries on five boards (bench/README.md has its figures):
+   entries on five boards (bench/README.md has its figures; those here, and the stack's, are of the archive that the toolchain before this one made):
    - A step takes 30 to 130 nanoseconds on average. A run tests its table and its search each time: beside its steps it takes up to 85 to 150 microseconds,
      by the board, as long as 1,200 to 4,000 steps there, and less over a small search. So a run of 1,000 steps takes up to 120 to 270 microseconds, most of
      it tests. Few long runs are cheaper than many short ones.

@@ -1,32 +1,33 @@
 #!/usr/bin/env python3
-"""Whether the edits of must-fail/CRATE are refused, each where it should be.
+"""Whether the must-fail edits are refused, each where it should be: those of
+must-fail/CRATE beside this file, and those of crates/CRATE/must-fail, which
+`rt ci` tries too.
 
-    python3 refused.py                 all crates that have a folder there
-    python3 refused.py --only CRATE    one of them
-    python3 refused.py --after-ci      the edits of crates/CRATE/must-fail too,
-                                       by what `rt ci`, which tried them, left
-                                       in target/must-fail
-    python3 refused.py --errors        prints what fails first with each edit,
-                                       to write its `at:` line
+    python3 refused.py                 of all crates
+    python3 refused.py --only CRATE    of one of them
+    python3 refused.py --errors        prints what fails first with each edit
+    python3 refused.py --write         writes that into its line `at:`
 
-An edit is written as those that `rt ci` tries, with one line more:
+An edit is written as `rt must-fail` reads it, with one line more:
 
-    at: FILE [NAME]
+    at: proofs/mask/subset/Answers.antt returns
+    at: src/mask.rt with returns-then-a-gt126
 
-The file has the first error, and NAME is the need or the law that the error
-names, if it names one.  (Of a function without a proof file it is the file
-that the prover asks for.)  So an edit that makes a fact false is told from one
-after which a proof names what is no longer there.  A need that is still true
-and whose proof no longer fits is for whoever writes the `at:` line to see.
+That is where the first fact stands that is not proved: the file, and the goal
+or the law that the prover names there, if it names one; of a goal that no
+proof file answers the file of src/, the function and the goal.
 
-Each crate is tried by `rt dev` in a copy of the repository: proved before, not
-proved with each of its edits, proved after.  An edit costs a quarter there of
-what it costs `rt ci`, which proves the crate anew for each.  So this is no
-verdict of `rt ci`: the incremental folder is trusted, which the first of these
-checks makes.  Each edit was refused both ways when it came here.
+So an edit that makes a fact false is told from one after which a proof names
+what is no longer there.  A goal that is still true and whose answer no longer
+fits is for whoever writes the `at:` line to see.
 
-Exit status 0 only if nothing failed.  RT_JOBS crates are tried at a time, or
-as many as the machine has processors, at most 4.
+All are tried by one run of `rt must-fail`, in a copy of the repository where
+the edits of both folders stand side by side.  It keeps on this machine what
+an edit came to, as `rt ci` does, and tries again only what changed; a check
+begins with what checks of the same crate kept here.
+
+Exit status 0 only if nothing failed.  RT_JOBS edits are tried at a time, or as
+many as there are processors and memory.
 """
 
 import argparse
@@ -37,27 +38,33 @@ import subprocess
 import sys
 import tempfile
 import time
-from concurrent.futures import ThreadPoolExecutor
-from functools import partial
 from typing import NamedTuple
 
 TESTS = os.path.dirname(os.path.abspath(__file__))
 ROOT = os.path.dirname(TESTS)
 EDITS = os.path.join(TESTS, "must-fail")
+READ = ("src", "specs", "proofs")       # what a check of a crate reads
 MOST_BY_CI = 4                  # edits of a crate that `rt ci` is to try
 SHOWN = 300                     # characters of a line, where it is printed
 
-# An error, with the need or law that it names; a function that has no proof
-# file, with the file that is asked for and the need.
-ERROR = re.compile(r"((?:src|specs|proofs)/\S+):\d+:\d+: error"
-                   r"(?:: `([^`]+)`:)?")
-NO_FILE = re.compile(r"fn .* in (proofs/\S+); `search` does not close "
-                     r"`([^`]+)`")
+# What `rt must-fail` says of an edit, and of a crate that it could not check
+# without one.
+CAME = re.compile(r"rt: must-fail (\w+)/(\S+)\.edit: (.*)")
+REFUSED = re.compile(r"refused, as it must be(?:: |$)")
+NO_CHECK = "rt: %s: the check that its must-fail edits begin with did not end"
+
+# An answer or a law that fails; a goal that nothing answers.  What `rt` shows
+# of a line may end within the name.
+FAILING = re.compile(r"(?:\./)?(proofs/[^:\s]+):(\d+):\d+: error"
+                     r"(?:: `([^`]+)(`:|$))?")
+OPEN = re.compile(r"note: (?:\./)?(src/[^:\s]+):(\d+):\d+: it is not proved "
+                  r"that (?:.*\(`([^`]+)(`\)|$))?")
+FUNCTION = re.compile(r'\s*(?:pub(?:\([^)]*\))? )?(?:extern "C" )?fn (\w+)')
 # A fact that hangs on one that failed; a proof that names what the edited code
 # or definition no longer has.
-HANGS = re.compile(r"`[^`]+` was not admitted ")
+HANGS = re.compile("was not admitted|was rejected, (?:was|were) not checked")
 UNFIT = re.compile("can be named from here|is not in scope|has no field|"
-                   "cannot be unfolded")
+                   "has no `|cannot be unfolded")
 
 
 class Bad(Exception):
@@ -70,293 +77,255 @@ class Bad(Exception):
 
 
 class Edit(NamedTuple):
-    pairs: list                 # file of the crate, old text, new text
-    at: str
+    path: str                   # of the file
+    by_ci: bool                 # whether `rt ci` tries it too
 
 
 class Failing(NamedTuple):
     """The first fact that is not proved: where, and what the prover said."""
     at: str
-    lines: list
+    cut: bool                   # the name goes on
+    line: str
 
 
 class Report:
-    """What came of some edits, as it is printed and counted."""
+    """What came of the edits of a crate, as it is printed and counted."""
 
-    def __init__(self, title, errors):
+    def __init__(self, title):
         self.title = title
-        self.errors = errors    # whether what fails first is printed
-        self.began = time.time()
         self.lines = []
         self.passed = 0
         self.failed = 0
 
-    def say(self, line, more):
+    def say(self, line, more=()):
         self.lines += ["  " + line, *("    " + one[:SHOWN] for one in more)]
 
     def fail(self, name, bad):
         self.failed += 1
+        name = "/".join(filter(None, (self.title, name)))
         self.say("FAILURE %s: %s" % (name, bad), bad.lines)
 
-    def take(self, name, found):
-        """Counts an edit by what `found` gives or raises."""
-        try:
-            failing = found()
-        except Bad as bad:
-            self.fail(name, bad)
-            return
-        self.passed += 1
-        if self.errors:
-            self.say("%s at: %s" % (name, failing.at), failing.lines)
-
     def ended(self):
-        self.lines.append("%s: %d edits refused, %.0f s" % (
-            self.title, self.passed, time.time() - self.began))
+        self.lines.append("%s: %d edits refused" % (self.title, self.passed))
         return self
 
 
 # The edits.
 
 def crates_listed():
-    """By the name of each crate, in the order of crates.txt, the names of the
-    crates that it stands on, itself not among them."""
-    listed = {}
+    """The names of the crates, in the order of crates.txt."""
     with open(os.path.join(ROOT, "crates.txt"), encoding="utf-8") as handle:
-        for line in handle:
-            name, colon, names = line.partition("#")[0].partition(":")
-            if colon:
-                listed[name.strip()] = names.split()
-
-    def reached(name):
-        return {other for direct in listed.get(name, ())
-                for other in (direct, *reached(direct)) if other in listed}
-
-    return {name: sorted(reached(name)) for name in listed}
+        lines = [line.partition("#")[0].partition(":")[0].split()
+                 for line in handle]
+    return [words[0] for words in lines if words]
 
 
-def edits_in(folder):
-    """The path of each edit of a folder, which need not be there, by its
-    name."""
-    names = sorted(os.listdir(folder)) if os.path.isdir(folder) else []
-    return {name.removesuffix(".edit"): os.path.join(folder, name)
-            for name in names}
+def names_in(folder):
+    """The names of a folder that need not be there."""
+    return sorted(os.listdir(folder)) if os.path.isdir(folder) else []
 
 
-def edit_at(path):
-    """The edit that a file has."""
-    if not path.endswith(".edit"):
-        raise Bad("its name does not end in .edit")
-    said = {"file": "", "old": "", "new": "", "at": ""}
-    pairs = []
+def edits_of(crate, report):
+    """The edits of a crate, by their names; those that cannot be tried are
+    reported."""
+    of_crate = os.path.join(ROOT, "crates", crate, "must-fail")
+    if len(names_in(of_crate)) > MOST_BY_CI:
+        report.fail("", Bad("%d edits, and `rt ci` is to try at most %d" % (
+            len(names_in(of_crate)), MOST_BY_CI)))
+    found = {}
+    for folder, by_ci in ((of_crate, True), (os.path.join(EDITS, crate),
+                                             False)):
+        for file in names_in(folder):
+            path, name = os.path.join(folder, file), file.removesuffix(".edit")
+            try:
+                if file == name:
+                    raise Bad("its name does not end in .edit")
+                if name in found:
+                    raise Bad("there are two of this name")
+                hold_files(path)
+                found[name] = Edit(path, by_ci)
+            except Bad as bad:
+                report.fail(name, bad)
+    return found
+
+
+def lines_of(path):
     with open(path, encoding="utf-8") as handle:
-        for line in handle.read().splitlines():
-            word, _, text = line.partition(":")
-            if word in said:
-                said[word] = text.removeprefix(" ")
-            if word == "new":
-                pairs.append((said["file"], said["old"], said["new"]))
-    return Edit(pairs, said["at"])
+        return handle.read().splitlines(keepends=True)
 
 
-def changed(edit, folder):
-    """The texts of the files that an edit changes, before and after, by their
-    paths."""
-    before, after = {}, {}
-    for file, old, new in edit.pairs:
-        path = os.path.join(folder, file)
-        if not re.match("(src|specs)/", file) or not os.path.isfile(path):
-            raise Bad("'file: %s' is no file of src or specs" % file)
-        if path not in before:
-            with open(path, encoding="utf-8") as handle:
-                before[path] = after[path] = handle.read()
-        count = after[path].count(old) if old else 0
-        if count != 1:
-            raise Bad("'old: %s' stands %d times in %s" % (old, count, file))
-        after[path] = after[path].replace(old, new)
-    if before == after:
-        raise Bad("it changes nothing")
-    return before, after
+def hold_files(path):
+    """An edit is one of code or of a definition, since one of a proof shows
+    nothing."""
+    for line in lines_of(path):
+        word, _, text = line.partition(":")
+        if word == "file" and not re.match(" (?:src|specs)/", text):
+            raise Bad("'%s' is no file of src or specs" % line.strip())
 
 
-# What the prover says.
-
-def first_failing(said, folder):
-    """The first fact that is not proved of the crate in a folder; None if none
-    is named."""
-    lines = said.replace(folder + "/", "").splitlines()
-    for pattern in (ERROR, NO_FILE):
-        for number, line in enumerate(lines):
-            found = pattern.match(line)
-            if found and not HANGS.search(line):
-                return Failing(" ".join(filter(None, found.groups())),
-                               message(lines[number:]))
-    return None
+def at_line_of(path):
+    """What the line `at:` says."""
+    return "".join(line.partition(":")[2].strip() for line in lines_of(path)
+                   if line.startswith("at:"))
 
 
-def message(lines):
-    """The first line, and those of the next three that belong to it."""
-    return lines[:1] + [line for line in lines[1:4] if line.startswith("  ")]
+def write_at_line(path, at):
+    lines = [line for line in lines_of(path) if not line.startswith("at:")]
+    with open(path, "w", encoding="utf-8") as handle:
+        handle.writelines([*lines, "at: %s\n" % at])
 
 
-def held(edit, status, said, folder):
-    """What fails first with an edit, if that is what the edit says."""
-    if status == 0:
-        raise Bad("NOT REFUSED: the crate is still proved")
-    if status != 1 or "\nlogic=not-proved" not in said:
-        raise Bad("it did not reach the prover (exit %d)" % status,
-                  said.splitlines()[:4])
-    failing = first_failing(said, folder)
-    if failing is None:
-        raise Bad("refused, and no error is named", said.splitlines()[:4])
-    if not failing.at.startswith("proofs/") or UNFIT.search(failing.lines[0]):
-        raise Bad("no fact fails first, but a file is unfit", failing.lines)
-    if not edit.at:
-        raise Bad("it has no line 'at: %s'" % failing.at, failing.lines)
-    if edit.at != failing.at:
-        raise Bad("wanted at: %s, came at: %s" % (edit.at, failing.at),
-                  failing.lines)
-    return failing
+# The copy.
 
-
-# The edits that `rt ci` tried.
-
-def after_ci(crates, report):
-    """Holds what `rt ci` said of its edits to their `at:` lines."""
-    for crate in crates:
-        edits = edits_in(os.path.join(ROOT, "crates", crate, "must-fail"))
-        if len(edits) > MOST_BY_CI:
-            report.fail(crate, Bad("%d edits, and `rt ci` is to try at most %d"
-                                   % (len(edits), MOST_BY_CI)))
-        for name, path in edits.items():
-            report.take("%s/%s" % (crate, name), partial(
-                left_by_ci, path, os.path.join(ROOT, "target", "must-fail",
-                                               crate, name)))
-    return report.ended()
-
-
-def left_by_ci(path, folder):
-    log = os.path.join(folder, ".log")
-    if not os.path.isfile(log):
-        raise Bad("`rt ci` left no log of it")
-    with open(log, encoding="utf-8") as handle:
-        return held(edit_at(path), 1, handle.read(), folder)
-
-
-# The edits that are tried here.
-
-class Room:
-    """A copy of the repository for one crate: itself and what is below it, the
-    latter as proved too."""
-
-    def __init__(self, path, crate, below):
-        self.path = os.path.realpath(path)
-        self.crate = crate
-        self.folder = os.path.join(self.path, "crates", crate)
-        self.copy("crates.txt")
-        for name in (crate, *below):
-            self.copy("crates", name)
-        for name in below:
-            self.copy("target", "rlib", name + ".rlib")
-            self.copy("target", "stamp", name)
-
-    def copy(self, *names):
-        was, now = (os.path.join(top, *names) for top in (ROOT, self.path))
-        os.makedirs(os.path.dirname(now), exist_ok=True)
-        (shutil.copytree if os.path.isdir(was) else shutil.copy)(was, now)
-
-    def check(self):
-        """The exit status of `rt dev`, and what it said."""
-        return said_by(["rt", "dev", self.crate], self.path)
-
-    def proved(self):
-        status, said = self.check()
-        if status != 0 or "\nlogic=proved" not in said:
-            failing = first_failing(said, self.folder)
-            raise Bad("not proved", failing.lines if failing
-                      else said.splitlines()[-4:])
-
-    def tried(self, path):
-        """What fails first with the edit that a file has."""
-        edit = edit_at(path)
-        before, after = changed(edit, self.folder)
-        write(after)
-        try:
-            status, said = self.check()
-        finally:
-            write(before)
-        return held(edit, status, said, self.folder)
+def copy_to(top, edits):
+    """A copy of the repository with these edits.  Those that `rt ci` tries are
+    the same bytes, since it keeps what they came to; the others go without
+    their lines `at:`, which `rt` does not read."""
+    shutil.copy(os.path.join(ROOT, "crates.txt"), top)
+    for crate in crates_listed():
+        was, now = (os.path.join(one, "crates", crate) for one in (ROOT, top))
+        for part in READ:
+            if os.path.isdir(os.path.join(was, part)):
+                shutil.copytree(os.path.join(was, part),
+                                os.path.join(now, part))
+        os.mkdir(os.path.join(now, "must-fail"))
+        for name, edit in edits.get(crate, {}).items():
+            path = os.path.join(now, "must-fail", name + ".edit")
+            with open(path, "w", encoding="utf-8") as handle:
+                handle.writelines(
+                    line for line in lines_of(edit.path)
+                    if edit.by_ci or not line.startswith("at:"))
 
 
 def said_by(command, folder):
-    ran = subprocess.run(command, cwd=folder, encoding="utf-8",
-                         stdout=subprocess.PIPE, stderr=subprocess.STDOUT)
+    ran = subprocess.run(command, cwd=folder, stdin=subprocess.DEVNULL,
+                         stdout=subprocess.PIPE, stderr=subprocess.STDOUT,
+                         encoding="utf-8", errors="replace", check=False)
     return ran.returncode, ran.stdout
 
 
-def write(texts):
-    for path, text in texts.items():
-        with open(path, "w", encoding="utf-8") as handle:
-            handle.write(text)
+def tried(edits):
+    """What `rt must-fail` said of each edit, as lines, by crate and name; and
+    the crates that are not proved as they stand, with lines that show it."""
+    with tempfile.TemporaryDirectory() as top:
+        copy_to(top, edits)
+        _, said = said_by(["rt", "must-fail", *edits], top)
+        came = {}
+        for line in said.splitlines():
+            found = CAME.match(line)
+            if found:
+                lines = came[found[1], found[2]] = [found[3]]
+            elif came and not line.startswith("rt: "):
+                lines.append(line)
+        if not came:
+            sys.exit("rt must-fail tried none:\n" + said[-4000:])
+        # Without a check of the crate as it stands nothing says that it is
+        # proved; of one edit alone `rt` makes none.
+        unproved = {}
+        for crate in edits:
+            if NO_CHECK % crate in said or len(edits[crate]) == 1:
+                status, told = said_by(["rt", "check", crate], os.path.join(
+                    top, "crates", crate))
+                if status:
+                    unproved[crate] = [
+                        line for line in told.splitlines()
+                        if FAILING.match(line) or OPEN.match(line)][:4]
+        return came, unproved
 
 
-def in_a_copy(crate, below, report):
-    """Tries the edits of a crate: proved before, refused with each, proved
-    after."""
-    when = "before"
-    with tempfile.TemporaryDirectory() as path:
-        room = Room(path, crate, below)
+# What came of an edit.
+
+def first_failing(crate, lines):
+    """The first fact that is not proved, after what `rt` said of an edit."""
+    if lines is None:
+        raise Bad("`rt must-fail` said nothing of it")
+    refused = REFUSED.match(lines[0])
+    if not refused:
+        raise Bad(lines[0], lines[1:5])
+    line = lines[0][refused.end():]
+    if not line:
+        raise Bad("refused, and no error is named")
+    found = FAILING.match(line) or OPEN.match(line)
+    if not found or HANGS.search(line) or UNFIT.search(line):
+        raise Bad("no fact fails first, but a file is unfit", [line])
+    file, number, name, ends = found.groups()
+    at = [file, function_at(crate, file, int(number)), name]
+    return Failing(" ".join(filter(None, at)), ends == "", line)
+
+
+def function_at(crate, file, number):
+    """The function in which that line of src/ stands; an edit moves none."""
+    if not file.startswith("src/"):
+        return None
+    lines = lines_of(os.path.join(ROOT, "crates", crate, file))[:number]
+    heads = filter(None, map(FUNCTION.match, reversed(lines)))
+    return next((head[1] for head in heads), None)
+
+
+def held(edit, failing):
+    """The first failing fact is what the edit says."""
+    at = at_line_of(edit.path)
+    if not at:
+        raise Bad("it has no line 'at: %s'" % failing.at, [failing.line])
+    if at != failing.at and not (failing.cut and at.startswith(failing.at)):
+        raise Bad("wanted at: %s, came at: %s" % (at, failing.at),
+                  [failing.line])
+
+
+def report_on(report, edits, came, options):
+    """Holds what came of the edits of a crate to their lines `at:`, or writes
+    these."""
+    for name, edit in edits.items():
         try:
-            room.proved()
-            for name, edit in edits_in(os.path.join(EDITS, crate)).items():
-                report.take("%s/%s" % (crate, name),
-                            partial(room.tried, edit))
-            when = "after"
-            room.proved()
+            failing = first_failing(report.title,
+                                    came.get((report.title, name)))
+            if options.errors:
+                report.say("%s/%s at: %s" % (report.title, name, failing.at),
+                           [failing.line])
+            if options.write and at_line_of(edit.path) != failing.at:
+                write_at_line(edit.path, failing.at)
+            held(edit, failing)
+            report.passed += 1
         except Bad as bad:
-            report.fail("%s, %s the edits" % (crate, when), bad)
-    return report.ended()
+            report.fail(name, bad)
 
 
-def tried_here(crates, listed, errors):
-    """The reports of the crates, which are tried in copies.  What is below
-    them is proved first, if it is not, as it is after `rt ci`."""
-    below = sorted({name for crate in crates for name in listed[crate]})
-    if below:
-        status, said = said_by(["rt", "check", *below], ROOT)
-        if status != 0:
-            raise SystemExit(said)
-    jobs = int(os.environ.get("RT_JOBS") or min(os.cpu_count() or 1, 4))
-    with ThreadPoolExecutor(jobs) as pool:
-        yield from pool.map(lambda crate: in_a_copy(
-            crate, listed[crate], Report(crate, errors)), crates)
-
-
-def reports(options, listed):
-    """All reports, as they come."""
-    crates = [options.only] if options.only else list(listed)
-    if options.after_ci:
-        yield after_ci(crates, Report("rt ci", options.errors))
-    folders = set(os.listdir(EDITS))
+def reports(options):
+    """All reports, each ended."""
+    listed = crates_listed()
+    folders = set(names_in(EDITS))
     for name in sorted(folders - set(listed)):
-        report = Report(name, options.errors)
-        report.fail(name, Bad("crates.txt lists no such crate"))
+        report = Report(name)
+        report.fail("", Bad("crates.txt lists no such crate"))
         yield report.ended()
-    yield from tried_here([crate for crate in crates if crate in folders],
-                          listed, options.errors)
+    reported = {crate: Report(crate) for crate in (
+        [options.only] if options.only else listed)}
+    edits = {crate: edits_of(crate, report)
+             for crate, report in reported.items()}
+    came, unproved = tried({crate: found for crate, found in edits.items()
+                            if found})
+    for crate, report in reported.items():
+        if crate in unproved:
+            report.fail("", Bad("it is not proved as it stands, so its edits "
+                                "show nothing", unproved[crate]))
+        else:
+            report_on(report, edits[crate], came, options)
+        if edits[crate] or report.failed:
+            yield report.ended()
 
 
 def main():
-    listed = crates_listed()
     parser = argparse.ArgumentParser()
-    parser.add_argument("--only", metavar="CRATE", choices=listed)
-    parser.add_argument("--after-ci", action="store_true")
+    parser.add_argument("--only", metavar="CRATE", choices=crates_listed())
     parser.add_argument("--errors", action="store_true")
-    passed = failed = 0
-    for report in reports(parser.parse_args(), listed):
+    parser.add_argument("--write", action="store_true")
+    began, passed, failed = time.time(), 0, 0
+    for report in reports(parser.parse_args()):
         print("\n".join(report.lines), flush=True)
         passed += report.passed
         failed += report.failed
-    print("must-fail: %d edits refused, %d failures" % (passed, failed))
+    print("must-fail: %d edits refused, %d failures, %.0f s" % (
+        passed, failed, time.time() - began))
     return 1 if failed or not passed else 0
 
 

@@ -2,6 +2,9 @@
 
 That goes by contents: `target/vilthomm.made` keeps a digest of the sources
 that the listing was made from, and one of the listing.
+
+The toolchain builds in the crates' folders `out`, and runs what it built; the
+listing that is asked is a copy.
 """
 
 import hashlib
@@ -16,13 +19,19 @@ from saying import Trouble, cause_of, say, show
 
 ROOT = os.path.dirname(os.path.dirname(os.path.realpath(__file__)))
 LISTING = os.path.join(ROOT, "target", "bin", "listing")
+CRATE = os.path.join(ROOT, "crates", "listing")
+PROGRAM = os.path.join(CRATE, "out", "listing")
 MADE = os.path.join(ROOT, "target", "vilthomm.made")
 BUILD_LOG = os.path.join(ROOT, "target", "vilthomm.log")
 LOG_LINES_SHOWN = 20
 QUIET = 1               # seconds without a word of rt before it is said why
 
 SOURCES = {"src": ".rt", "specs": ".antt", "proofs": ".antt"}
-PROVED = re.compile(rb"^rt: (\w+) proved \(", re.MULTILINE)
+
+# What is called in the folder CRATE, for a program that every x86-64 runs; and
+# the line with which it begins a crate.
+RUN = ["rt", "run", "listing", "--cpu=x86-64"]
+BEGUN = re.compile(rb"^rt: chose --jobs \d+ for (\w+)$", re.MULTILINE)
 
 
 def needed():
@@ -30,9 +39,9 @@ def needed():
     found = {}
     with open(os.path.join(ROOT, "crates.txt"), encoding="utf-8") as handle:
         for line in handle:
-            crate, colon, others = line.partition("#")[0].partition(":")
-            if colon:
-                found[crate.strip()] = others.split()
+            crate, _, others = line.partition("#")[0].partition(":")
+            if crate.split():       # its kind may stand behind the name
+                found[crate.split()[0]] = others.split()
     return found
 
 
@@ -115,8 +124,7 @@ def build_by_rt():
     os.makedirs(os.path.dirname(BUILD_LOG), exist_ok=True)
     began, digest = time.monotonic(), digest_of_sources()
     say("building the listing: this proves the %d crates that it is made of, "
-        "from nothing in some three minutes on two processors"
-        % len(to_prove()))
+        "as far as they changed" % len(to_prove()))
     with open(BUILD_LOG, "wb") as log:
         status = run_rt(log)
     if status:
@@ -124,23 +132,33 @@ def build_by_rt():
             os.remove(LISTING)
         with open(BUILD_LOG, encoding="utf-8", errors="replace") as log:
             show(log.readlines()[-LOG_LINES_SHOWN:])
-        raise Trouble("the listing could not be built: 'rt check listing' "
+        raise Trouble("the listing could not be built: 'rt run listing' "
                       "ended with status %d (target/vilthomm.log)" % status)
-    if not os.path.isfile(LISTING):
-        raise Trouble("'rt check listing' left no target/bin/listing: remove "
-                      "target/stamp/listing and ask again")
+    if not os.path.isfile(PROGRAM):
+        raise Trouble("'rt run listing' left no crates/listing/out/listing: "
+                      "remove crates/listing/out and ask again")
+    copy_program()
     with open(MADE, "wb") as handle:
         handle.write(made_from(digest))
     say("built in %d s" % (time.monotonic() - began))
 
 
+def copy_program():
+    """Puts what rt built into the place of the listing, whole."""
+    os.makedirs(os.path.dirname(LISTING), exist_ok=True)
+    beside = LISTING + ".new"
+    shutil.copy(PROGRAM, beside)
+    os.replace(beside, LISTING)
+
+
 def run_rt(log):
-    """The status of rt; what it prints goes to the log."""
+    """The status of rt; what it says goes to the log.  The program that it
+    runs in the end gets no input, and what that prints is for nobody."""
     with subprocess.Popen(
-            ["rt", "check", "listing"], cwd=ROOT, stdin=subprocess.DEVNULL,
-            stdout=subprocess.PIPE, stderr=subprocess.STDOUT) as process:
+            RUN, cwd=CRATE, stdin=subprocess.DEVNULL,
+            stdout=subprocess.DEVNULL, stderr=subprocess.PIPE) as process:
         try:
-            follow(process.stdout.fileno(), log)
+            follow(process.stderr.fileno(), log)
         except BaseException:
             process.kill()
             raise
@@ -167,13 +185,15 @@ def follow(pipe, log):
 
 
 def proving(printed):
-    """What rt is proving, after what it printed: the crates for which all
-    that they need is proved; None if there are none."""
-    crates = to_prove()
-    proved = {name.decode("ascii") for name in PROVED.findall(printed)}
-    ready = [crate for crate in crates if crate not in proved
-             and proved.issuperset(crates[crate])]
-    if not ready:
+    """What rt is proving, after what it said: the crate that it began last.
+    What that one needs is proved, and so is what it began before.  None where
+    it has begun none."""
+    crates = set(to_prove())
+    begun = [name.decode("ascii") for name in BEGUN.findall(printed)]
+    begun = [name for name in begun if name in crates]
+    if not begun:
         return None
+    reached = {crate for name in begun for crate in crates_of(name)}
+    proved = reached & crates - {begun[-1]}
     return "proving %s; %d of %d crates are proved" % (
-        " and ".join(ready), len(proved.intersection(crates)), len(crates))
+        begun[-1], len(proved), len(crates))

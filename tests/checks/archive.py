@@ -11,7 +11,7 @@ import enumerator as en
 from checks.cases import LISTED_001
 from checks.compiled import (
     ARCHIVE, BUILT, EXAMPLE, FLAGS, HEADER, PROVED, TOP, archive_made,
-    compiler, fails, header_text, ran, succeeds, write_header)
+    compiler, fails, header_text, proved, ran, succeeds, write_header)
 from checks.header import defined
 from checks.tally import section
 
@@ -45,10 +45,8 @@ def hold_made_again(tally):
     """Made anew, from the compilation on, it has the same bytes."""
     first, again = bytes_of(ARCHIVE), os.path.join(BUILT, "again.a")
     os.remove(os.path.join(TOP, PROVED))
-    if (succeeds(tally, "rt staticlib firmware", "rt", "staticlib",
-                 "firmware")
-            and succeeds(tally, "tools/archive", "tools/archive", PROVED,
-                         again)):
+    if proved(tally) and succeeds(tally, "tools/archive", "tools/archive",
+                                  PROVED, again):
         tally.true("the archive made again", bytes_of(again) == first)
 
 

@@ -15,7 +15,7 @@ from checks.tally import TESTS
 
 TOP = os.path.dirname(TESTS)
 BUILT = os.path.join("target", "firmware")
-PROVED = os.path.join("target", "staticlib", "libfirmware.a")
+PROVED = os.path.join("crates", "firmware", "out", "libfirmware.a")
 ARCHIVE = os.path.join("target", "libvilthomm.a")
 HEADER = os.path.join("include", "vilthomm.h")
 EXAMPLE = os.path.join("examples", "firmware.c")
@@ -72,6 +72,10 @@ def archive_made(tally):
         if shutil.which(tool) is None:
             print("  %s is not installed: no archive" % tool)
             return False
-    return (succeeds(tally, "rt staticlib firmware", "rt", "staticlib",
-                     "firmware")
-            and succeeds(tally, "tools/archive", "tools/archive"))
+    return proved(tally) and succeeds(tally, "tools/archive", "tools/archive")
+
+
+def proved(tally):
+    """Whether the toolchain made its archive, the one that PROVED names."""
+    return succeeds(tally, "tools/staticlib firmware", "tools/staticlib",
+                    "firmware")

@@ -15,28 +15,32 @@ from checks.cases import LISTED_001
 from checks.project import ROOT, building
 from checks.tally import section
 
+CRATES = os.path.join(ROOT, "crates")
 BUILDING = "vilthomm: building the listing: "
 BUILT = re.compile("vilthomm: built in [0-9]+ s")
 
-# Commands rt: one that fails, one that does nothing, one that "builds", one
-# that takes its time with the first two crates.
+# Commands rt: one that fails, one that does nothing, one that "builds" and
+# runs what it built, one that takes its time with the first two crates.
 FAILING = """
-print(*range(1, 31), sep="\\n")
+print(*range(1, 31), sep="\\n", file=sys.stderr)
 sys.exit(3)
 """
 IDLE = ""
 BUILDER = """
-if sys.argv[1:] != ["check", "listing"]:
+if (sys.argv[1:] != %r
+        or not os.getcwd().endswith(os.path.join("crates", "listing"))):
     sys.exit(1)
-os.makedirs("target/bin", exist_ok=True)
-with open("target/bin/listing", "w") as handle:
-    handle.write(%r)
-os.chmod("target/bin/listing", 0o755)
-"""
+os.makedirs("out", exist_ok=True)
+with open("out/listing", "w") as handle:
+    handle.write(%%r)
+os.chmod("out/listing", 0o755)
+print("rt: running out/listing", file=sys.stderr)
+print("for nobody", sys.stdin.read())
+""" % building.RUN[1:]
 SLOW = """
 for name in ("sets", "board"):
+    print("rt: chose --jobs 2 for " + name, file=sys.stderr, flush=True)
     time.sleep(%r)
-    print("rt: %%s proved (1 s)" %% name, flush=True)
 """ % (1.5 * building.QUIET)
 
 # Listings.
@@ -50,17 +54,27 @@ def rt_that_builds(listing):
     return BUILDER % script(listing)
 
 
+def without_built(folder, names):
+    """What a copy of the crates leaves out: what the toolchain built."""
+    return ["out"] if os.path.dirname(folder) == CRATES else []
+
+
 @contextlib.contextmanager
-def copied(crates=os.symlink):
-    """A copy of what the command needs, without anything built.  The crates
-    are those of the project, or copies."""
+def copied():
+    """A copy of what the command needs, without anything built; of the crates
+    too, since rt builds in their folders."""
     with tempfile.TemporaryDirectory() as folder:
         for name in ("vilthomm", "crates.txt"):
             shutil.copy(os.path.join(ROOT, name), folder)
-        for name, make in (("tools", shutil.copytree), ("crates", crates),
+        for name, make in (("tools", shutil.copytree),
+                           ("crates", copy_of_crates),
                            ("examples", os.symlink)):
             make(os.path.join(ROOT, name), os.path.join(folder, name))
         yield folder
+
+
+def copy_of_crates(was, now):
+    shutil.copytree(was, now, ignore=without_built)
 
 
 @section("the command: where the listing is not built")
@@ -104,7 +118,7 @@ def hold_failed_build(tally):
         first, *shown, last = said.splitlines()
         tally.same("rt fails", (status, printed, shown, last), (
             2, b"", [str(number) for number in range(11, 31)],
-            "vilthomm: the listing could not be built: 'rt check listing' "
+            "vilthomm: the listing could not be built: 'rt run listing' "
             "ended with status 3 (target/vilthomm.log)"))
         tally.true("rt fails: %s" % first, first.startswith(BUILDING))
         tally.true("rt fails: no listing stays", not os.path.exists(old))
@@ -112,8 +126,8 @@ def hold_failed_build(tally):
         status, printed, said = called(folder, path, BOARD, "7")
         tally.same("rt does nothing", (status, printed), (2, b""))
         tally.true("rt does nothing: " + said, said.endswith(
-            "left no target/bin/listing: remove target/stamp/listing and ask "
-            "again\n"))
+            "left no crates/listing/out/listing: remove crates/listing/out "
+            "and ask again\n"))
     with copied() as folder, path_with(IDLE) as path:
         stands = os.path.join(folder, "target")
         open(stands, "wb").close()
@@ -155,11 +169,16 @@ def hold_progress(tally):
             first.startswith(BUILDING + "this proves the %d crates " % count)
             and BUILT.fullmatch(last)))
     for printed, wanted in (
-            (b"rt: sets proved (unchanged since it was last proved)\n"
-             b"rt: board proved (9 s)\n",
-             "proving files and search; 2 of %d crates are proved" % count),
-            (b"".join(b"rt: %s proved (1 s)\n" % name.encode("ascii")
-                      for name in building.to_prove()), None)):
+            (b"rt: sets: begins with what a check kept elsewhere\n"
+             b"rt: chose --jobs 2 for search\nfn search::bench: proved\n",
+             "proving search; 2 of %d crates are proved" % count),
+            (b"rt: chose --jobs 4 for search\n"
+             b"rt: chose --jobs 1 for files\n",
+             "proving files; 3 of %d crates are proved" % count),
+            (b"rt: chose --jobs 2 for listing\n",
+             "proving listing; %d of %d crates are proved" % (
+                 count - 1, count)),
+            (b"rt: chose --jobs 2 for holding\n", None), (b"", None)):
         tally.same("after %r" % printed, building.proving(printed), wanted)
 
 
@@ -197,7 +216,7 @@ def left_by_editors(source):
 def hold_contents(tally):
     """What is no source is no reason to build again, and neither is a time; a
     changed source is one.  What is built is used where there is no rt."""
-    with copied(shutil.copytree) as folder, path_with() as path:
+    with copied() as folder, path_with() as path:
         with path_with(rt_that_builds(PRINTING)) as building_path:
             tally.same("built", called(folder, building_path, BOARD, "7")[:2],
                        (0, LISTED_001))
@@ -234,6 +253,8 @@ def harmless(folder):
         at("crates", "search", "specs", "Order.antt"))
     yield "an edit that must fail", lambda: append(
         at("crates", "sets", "must-fail", "a.edit"))
+    yield "what the toolchain leaves", lambda: append(
+        at("crates", "listing", "out", "listing.rt"))
     yield "what the program is to print", lambda: append(
         at("crates", "listing", "stdout"))
     yield "a crate that the listing is not made of", lambda: append(

@@ -39,8 +39,8 @@ example_boards = module_at("examples", "boards.py")
 @functools.lru_cache(maxsize=None)
 def built():
     """Whether the listing is built from what is here, as the command sees it.
-    If not, it is built as the command does it, which is quick where its crates
-    are proved already, as after `rt ci`; that is tried once."""
+    If not, it is built as the command does it, which is quick where the crates
+    below it are built already, as after `make`; that is tried once."""
     if not command.is_built():
         try:
             command.build()
