@@ -30,20 +30,20 @@ use search::{Ending, Opened, Search};
 // How many bytes have room for every listing (`most_text`).
 pub const TEXT_BYTES: usize = 37203;
 
-// How many bytes of a file and of an input decide what is printed (`listing_decided`): that these are the law's numbers is what `file_bytes` and
+// How many bytes of a file and of an input decide what is printed (`listing_decided`): that these are the law's numbers is what the functions `file_bytes` and
 // `input_bytes` ensure. As constants they are for the lengths of arrays.
 pub const FILE_BYTES: usize = 3334;
 
 pub const INPUT_BYTES: usize = 11;
 
-// The law's number for a file (`file_bytes`), which is `FILE_BYTES`. 1 basic step.
+// The law's number for a file (the definition `file_bytes`), which is `FILE_BYTES`. 1 basic step.
 pub fn file_bytes() -> usize
     ensures { result ≡ file_bytes }
 {
     FILE_BYTES
 }
 
-// The law's number for an input (`input_bytes`), which is `INPUT_BYTES`. 1 basic step.
+// The law's number for an input (the definition `input_bytes`), which is `INPUT_BYTES`. 1 basic step.
 pub fn input_bytes() -> usize
     ensures { result ≡ input_bytes }
 {
@@ -92,7 +92,7 @@ fn put_refused_file(text: &mut [u8], number: u8, place: usize) -> usize
 
 // Runs a search and puts what is printed of the run.
 fn put_run(text: &mut [u8], t: Table, from: Search, allowance: u16) -> usize
-    requires t { T (is_table t) }
+    requires some_table { T (is_table t) }
     requires has_room { HasRoom text.old 0 (ran_text (board_of t) (run_search bench t from allowance)) }
     ensures { PutAs text.old 0 (ran_text (board_of t) (run_search bench t from allowance)) text.new result }
 {
@@ -106,7 +106,7 @@ fn put_run(text: &mut [u8], t: Table, from: Search, allowance: u16) -> usize
 
 // Opens a question and puts what is printed of it.
 fn put_opened(text: &mut [u8], t: Table, question: &[u8], allowance: u16) -> usize
-    requires t { T (is_table t) }
+    requires some_table { T (is_table t) }
     requires most_text_in_bounds { most_text ≤ length text.old }
     ensures { PutAs text.old 0 (opened_text bench (board_of t) (open_question t question.now) allowance)
         text.new result }
@@ -122,7 +122,7 @@ fn put_opened(text: &mut [u8], t: Table, question: &[u8], allowance: u16) -> usi
 
 // Takes the input apart and puts what is printed of it.
 fn put_asked(text: &mut [u8], t: Table, input: &[u8]) -> usize
-    requires t { T (is_table t) }
+    requires some_table { T (is_table t) }
     requires most_text_in_bounds { most_text ≤ length text.old }
     ensures { PutAs text.old 0 (asked_text bench (board_of t) input.now) text.new result }
 {

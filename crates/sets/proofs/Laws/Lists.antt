@@ -1,5 +1,5 @@
 -- Laws of the functions on lists that go by a test: `any`, `all`, `keep`, `is_empty`, `among` and `same_numbers`, in terms of the elements of the
--- list. `List.Memᴰ x xs` says that x is an element of xs. Assumes nothing.
+-- list. `Memᴰ x xs` says that x is an element of xs. Assumes nothing.
 pub mod Ascending
 pub mod Distinct
 pub mod Ends

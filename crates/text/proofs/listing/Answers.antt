@@ -17,7 +17,7 @@ pub put_asked-requires : goal.put_asked-requires
 put_asked-requires c =
     let l = c.load-loading in
     record {
-      t = loaded-table c.args.file.now c.args.input.now l.result l.ensures (bytes (goal.at.put_asked-requires c).After-shared_slice_known-1)
+      some_table = loaded-table c.args.file.now c.args.input.now l.result l.ensures (bytes (goal.at.put_asked-requires c).After-shared_slice_known-1)
           c.in-Accepted.is;
       most_text_in_bounds = omega arith;
     }

@@ -14,7 +14,7 @@ returns c =
     let count = c.wide-end in
     rw (
       asked-whole (board_of c.args.t) c.args.input.now count.result count.ensures.value (omega (arith, count.ensures.value)),
-      ← is_table-stored c.args.t c.requires.t,
+      ← is_table-stored c.args.t c.requires.some_table,
       ← c.wide16.ensures.value,
       ← c.wide16-2.ensures.value,
     ) c.put_opened.ensures

@@ -7,18 +7,18 @@ pub put_run-requires : goal.put_run-requires
 put_run-requires c =
     let o = c.open-opening in
     record {
-      t = c.requires.t;
-      has_room = omega (arith, opened-length c.args.t c.requires.t c.args.question.now o.result o.ensures c.args.allowance c.in-Accepted.is (omega arith));
+      some_table = c.requires.some_table;
+      has_room = omega (arith, opened-length c.args.t c.requires.some_table c.args.question.now o.result o.ensures c.args.allowance c.in-Accepted.is (omega arith));
     }
 
 pub returns-in-Accepted : goal.returns-in-Accepted
 returns-in-Accepted c =
     let o = c.open-opening in
-    rw (opened-accepted c.args.t c.requires.t c.args.question.now o.result o.ensures c.args.allowance c.in-Accepted.is)
+    rw (opened-accepted c.args.t c.requires.some_table c.args.question.now o.result o.ensures c.args.allowance c.in-Accepted.is)
     c.put_run.ensures
 
 pub returns-in-Refused : goal.returns-in-Refused
 returns-in-Refused c =
     let o = c.open-opening in
-    rw (opened-refused c.args.t c.requires.t c.args.question.now o.result o.ensures c.args.allowance c.in-Refused.number c.in-Refused.is)
+    rw (opened-refused c.args.t c.requires.some_table c.args.question.now o.result o.ensures c.args.allowance c.in-Refused.number c.in-Refused.is)
     c.put_refused.ensures

@@ -20,7 +20,7 @@ all : (c : After-whole_weight-whole) → let r = c.run-ran.result in let t = c.a
     ≡ bytes_of "total " ++ decimal c.whole_weight-whole.result ++ bytes_of "\n" ++ lines_text r.search.line r.search.lines ++ last_text (run_means r)
 unfolding ran_text run_means
 all c =
-    rw (← c.run-ran.ensures, ← table-weight c.args.t c.requires.t 0 [] [], ← c.whole_weight-whole.ensures 0 [] [], lines_texts)
+    rw (← c.run-ran.ensures, ← table-weight c.args.t c.requires.some_table 0 [] [], ← c.whole_weight-whole.ensures 0 [] [], lines_texts)
 
 pub put_ended-lines-requires : goal.put_ended-lines-requires
 unfolding bytes_of
