@@ -257,8 +257,10 @@ def function_at(crate, file, number):
     """The function in which that line of src/ stands; an edit moves none."""
     if not file.startswith("src/"):
         return None
-    lines = lines_of(os.path.join(ROOT, "crates", crate, file))[:number]
-    heads = filter(None, map(FUNCTION.match, reversed(lines)))
+    lines = lines_of(os.path.join(ROOT, "crates", crate, file))
+    while lines[number - 1].lstrip().startswith("#["):      # it begins there
+        number += 1
+    heads = filter(None, map(FUNCTION.match, reversed(lines[:number])))
     return next((head[1] for head in heads), None)
 
 
