@@ -1,4 +1,4 @@
-// The entry points under C names, for `rt staticlib firmware`; `include/vilthomm.h` declares them. Each calls the entry point of a crate below and hands
+// The entry points under C names, for `tools/staticlib firmware`; `include/vilthomm.h` declares them. Each calls the entry point of a crate below and hands
 // on what it answers, an enum written as a number: 0 where nothing was refused (of a run 0 for done and 1 for more), else the refusal's number. In C a slice
 // is two arguments, a pointer and a length.
 ghost use Rattle.std.specs.Prelude.{◌≡◌};
