@@ -1,4 +1,6 @@
 // `bounds::drive` under a C name, for the benchmark, which measures how much stack it takes (`bench/run`). No part of the product's archive.
+#![tactic(auto)]
+
 ghost use Rattle.std.specs.Prelude.{◌≡◌};
 ghost use Rattle.search.specs.EntryPoints.{opened_search};
 ghost use Rattle.bounds.specs.Demand3.{search_after};

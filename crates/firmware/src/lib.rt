@@ -1,6 +1,8 @@
 // The entry points under C names, for `tools/staticlib firmware`; `include/vilthomm.h` declares them. Each calls the entry point of a crate below and hands
 // on what it answers, an enum written as a number: 0 where nothing was refused (of a run 0 for done and 1 for more), else the refusal's number. In C a slice
 // is two arguments, a pointer and a length.
+#![tactic(auto)]
+
 ghost use Rattle.std.specs.Prelude.{◌≡◌};
 ghost use Rattle.std.proofs.Math.Option.{some};
 ghost use Rattle.board.specs.Load.{load};

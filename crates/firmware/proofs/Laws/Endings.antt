@@ -8,7 +8,7 @@ use Rattle.board.specs.Table.{board_of, is_table}
 use Rattle.board.specs.declared.Table.{Table}
 use Rattle.search.specs.Search.{Limits, Ending, done, more, stopped, run}
 use Rattle.search.specs.Store.{search_of, well_formed}
-use Rattle.search.specs.EntryPoints.{RunAnswer, not_run, ran_on, run_search}
+use Rattle.search.specs.EntryPoints.{not_run, ran_on, run_search}
 use Rattle.search.specs.declared.Search.{Search as Stored}
 use Rattle.search.proofs.Laws.Search.Runs.{run_stops}
 use Rattle.firmware.specs.Answers.{ending_number, run_answer}

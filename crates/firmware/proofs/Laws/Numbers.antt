@@ -11,16 +11,16 @@ use Rattle.sets.specs.Lists.{any, ascending}
 use Rattle.board.specs.Answers.{FileAnswer, accepted, refused_at, Answer, granted, refused}
 use Rattle.board.specs.Board.{Board, declarations, is_state_of}
 use Rattle.board.specs.Load.{load}
-use Rattle.board.specs.Table.{table_in, table_of, board_of, is_table}
+use Rattle.board.specs.Table.{table_in, board_of, is_table}
 use Rattle.board.specs.EntryPoints.{yes_or_no}
 use Rattle.board.specs.declared.Table.{Table}
 use Rattle.board.proofs.Promise.{load-number, accepted_iff, table_in-accepted, board_of-table_of}
 use Rattle.search.specs.Order.{Line}
-use Rattle.search.specs.Search.{Search, bench, Limits, low}
+use Rattle.search.specs.Search.{Limits, low}
 use Rattle.search.specs.Store.{search_of, well_formed}
 use Rattle.search.specs.EntryPoints.{most_asked, open_question, line_weight, thousandths, share_of}
 use Rattle.search.specs.declared.Search.{Search as Stored}
-use Rattle.firmware.specs.Answers.{file_number, load_answer, number_of, open_answer, share_answer, holds_answer, total_of, total_answer}
+use Rattle.firmware.specs.Answers.{file_number, load_answer, number_of, total_of}
 
 -- where the number is 0, something was granted
 abbrev pub Tells : {A : Type 0} → Answer A → Type 0

@@ -1,6 +1,6 @@
 -- Demand 3 and what 32 says, under C names, proved. Assumes nothing.
 use Prim.Native.Nat.{ℕ}
-use mathlib.Core.Path.{◌≡◌, refl, ap₂, ◌∙◌}
+use mathlib.Core.Path.{◌≡◌, refl, ap₂}
 use mathlib.Core.List.{List, [], ◌∷◌, map}
 use Rattle.board.specs.Answers.{granted}
 use Rattle.board.specs.Table.{board_of}

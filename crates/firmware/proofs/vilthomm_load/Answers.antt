@@ -1,5 +1,4 @@
 -- `vilthomm_load` meets its contract: what loading handed back, its answer as a number and a place. Assumes nothing.
-use borrow.Author.Rules.{rules}
 use mathlib.Core.Path.{sym, ap}
 use Rattle.board.specs.EntryPoints.{loaded_means}
 use Rattle.firmware.specs.Answers.{file_number, file_place}

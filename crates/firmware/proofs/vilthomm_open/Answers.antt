@@ -1,5 +1,4 @@
 -- `vilthomm_open` meets its contract: what opening handed back, its answer as a number. Assumes nothing.
-use borrow.Author.Rules.{rules}
 use mathlib.Core.Path.{sym, ap}
 use Rattle.search.specs.EntryPoints.{opened_means}
 use Rattle.firmware.specs.Answers.{number_of}

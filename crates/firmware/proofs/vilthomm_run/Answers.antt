@@ -1,5 +1,4 @@
 -- `vilthomm_run` meets its contract: the run's answer, its ending as a number. Assumes nothing.
-use borrow.Author.Rules.{rules}
 use mathlib.Core.Path.{ap}
 use Rattle.search.specs.EntryPoints.{run_means}
 use Rattle.firmware.specs.Answers.{run_answer}

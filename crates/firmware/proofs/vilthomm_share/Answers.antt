@@ -1,5 +1,4 @@
 -- `vilthomm_share` meets its contract: the share's answer as numbers. Assumes nothing.
-use borrow.Author.Rules.{rules}
 use mathlib.Core.Path.{sym, ap, ◌∙◌}
 use Rattle.search.specs.EntryPoints.{share_means}
 use Rattle.firmware.specs.Answers.{number_of, granted_number, share_answer}

@@ -1,6 +1,4 @@
 -- `vilthomm_total` meets its contract: of an accepted table, what `whole_weight` answers is W. Assumes nothing.
-use borrow.Author.Rules.{rules}
-use borrow.Author.Tests.{not-true, not-false}
 use mathlib.Core.Path.{◌≡◌, sym, ◌∙◌}
 use mathlib.Core.Bool.{true}
 use mathlib.Core.List.{[]}

@@ -1,5 +1,4 @@
 -- `vilthomm_yes_or_no` meets its contract: the yes_or_no's answer as numbers. Assumes nothing.
-use borrow.Author.Rules.{rules}
 use mathlib.Core.Path.{sym, ap, ◌∙◌}
 use Rattle.board.specs.EntryPoints.{told_means}
 use Rattle.firmware.specs.Answers.{number_of, held_number, holds_answer}
