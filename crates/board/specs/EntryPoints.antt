@@ -1,24 +1,18 @@
 -- The entry points of `files` and `holding`, as the contracts cite them: what each gives, and for each answer that is an enum of the code the paper's
--- number and values of its cases. Document 01: "A refused load returns the table whose every field is zero. .. A refused yes-or-no or share returns its
--- number alone." Assumes nothing.
-use Rattle.std.specs.Prelude.{ℕ, ◌≡◌, Bool, true, false, not, cond, List, leb}
+-- number and values of its cases. Document 01: "A refused yes-or-no or share returns its number alone." Assumes nothing.
+use Rattle.std.specs.Prelude.{ℕ, ◌≡◌, Bool, not, cond, List, leb, Result, Ok, Err}
 use Rattle.board.specs.Sizes.{most_body}
-use Rattle.board.specs.Answers.{FileAnswer, accepted, refused_at, Answer, granted, refused}
+use Rattle.board.specs.Answers.{FileAnswer, accepted, refused_at, Answer, granted, refused, refusal_number, file_answer_means}
 use Rattle.board.specs.Board.{Board, declarations, is_state_of}
 use Rattle.board.specs.Holds.{holds, in_state}
 use Rattle.board.specs.File as file
-use Rattle.board.specs.File.{Found, low_bytes}
-use Rattle.board.specs.Table.{board_of, table_in, is_table}
+use Rattle.board.specs.File.{low_bytes}
+use Rattle.board.specs.Table.{board_of, table_of, is_table}
 use Rattle.board.specs.declared.Table.{Table}
 use Rattle.board.specs.declared.Record.{Record}
 use Rattle.board.specs.declared.Record.TheVariants.{Count, Hypothesis, Rule, End}
-use Rattle.board.specs.declared.Read.{Read}
-use Rattle.board.specs.declared.Read.TheVariants as read
-use Rattle.board.specs.declared.Loaded.{Loaded}
-use Rattle.board.specs.declared.Loaded.TheVariants as loaded
-use Rattle.board.specs.declared.Loading.{Loading}
-use Rattle.board.specs.declared.Told.{Told}
-use Rattle.board.specs.declared.Told.TheVariants as told
+use Rattle.board.specs.declared.Found.{Found}
+use Rattle.board.specs.declared.RefusedAt.{RefusedAt}
 
 -- ---- reading one record
 
@@ -29,35 +23,29 @@ record_means (Hypothesis d a w) = file.hypothesis d a w
 record_means (Rule h places) = file.rule h (low_bytes most_body places)
 record_means End = file.finish
 
--- What each value of the code's enum `Read` means: "the record and the place of the next, or refusal 1 or 2 and its place"
-unfoldable pub read_means : Read → FileAnswer Found
-read_means (read.At r next) = accepted (record { found = record_means r; next = next })
-read_means (read.Refused number place) = refused_at number place
+-- What reading answers: "the record and the place of the next, or refusal 1 or 2 and its place"
+unfoldable pub read_means : Result Found RefusedAt → FileAnswer file.Found
+read_means (Ok r) = accepted (record { found = record_means r.record; next = r.next })
+read_means (Err r) = refused_at (refusal_number r.refusal) r.place
 
 -- ---- loading
 
--- the answer that stands beside the table
+-- the answer by itself
 unfoldable pub outcome_of : FileAnswer Board → FileAnswer Unit
 outcome_of (accepted b) = accepted tt
 outcome_of (refused_at number place) = refused_at number place
 
--- What each value of the code's enum `Loaded` means: accepted, or a refusal's number and place
-unfoldable pub loaded_means : Loaded → FileAnswer Unit
-loaded_means loaded.Accepted = accepted tt
-loaded_means (loaded.Refused number place) = refused_at number place
+-- the table of the board that was accepted: "The table keeps the records' order."
+unfoldable pub table_answer : FileAnswer Board → FileAnswer Table
+table_answer (accepted b) = accepted (table_of b)
+table_answer (refused_at number place) = refused_at number place
 
--- what loading hands back: the answer, and the table beside it
-pub record LoadsAs (answer : FileAnswer Board) (r : Loading) : Type 0 where
-  pub answers : loaded_means r.answer ≡ outcome_of answer
-  pub table : r.table ≡ table_in answer
+-- what loading answers. That "a refused load returns the table whose every field is zero" is said where a table is handed back beside a refusal:
+-- under C names (`load_answer`).
+abbrev pub LoadsAs : FileAnswer Board → Result Table RefusedAt → Type 0
+LoadsAs answer r = file_answer_means r ≡ table_answer answer
 
 -- ---- the yes-or-no
-
--- What each value of the code's enum `Told` means: yes, no, or "its number alone"
-unfoldable pub told_means : Told → Answer Bool
-told_means told.Yes = granted true
-told_means told.No = granted false
-told_means (told.Refused number) = refused number
 
 -- "There is a public yes-or-no for one atom in one board state"; "The yes-or-no checks 20, 25, 22"
 unfoldable pub yes_or_no : Table → List ℕ → ℕ → Answer Bool

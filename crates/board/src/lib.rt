@@ -5,6 +5,10 @@
 // The code that reads files and tells which tables some file loads to is the crate `files`; the yes-or-no is the crate `holding`.
 #![tactic(auto)]
 
+ghost use Rattle.std.specs.Prelude.{◌≡◌};
+ghost use Rattle.board.specs.Answers.{refusal_number};
+ghost use Rattle.board.specs.Table.{zero_table};
+
 pub mod facts;
 pub mod walks;
 mod weights;
@@ -25,8 +29,69 @@ pub struct Table {
     pub body: [u8; 2048],
 }
 
+impl Table {
+    // The table whose every field is zero. Three counts and five arrays, some 3 KB.
+    pub fn zero() -> Table
+        ensures { result ≡ zero_table }
+    {
+        Table {
+            atoms: 0,
+            hypotheses: 0,
+            rules: 0,
+            declaration: [0; 128],
+            atom: [0; 128],
+            weight: [0; 128],
+            head: [0; 256],
+            body: [0; 2048],
+        }
+    }
+}
+
+// Why a call is refused: the rows of document 01's table "What the scope says no to", each under its word and with its number.
+#[derive(Clone, Copy, PartialEq, Eq)]
+pub enum Refusal {
+    CutOff = 1,
+    Kind = 2,
+    Misplaced = 3,
+    Atom = 4,
+    Declaration = 5,
+    Hypothesis = 6,
+    Weight = 7,
+    Product = 8,
+    Body = 9,
+    Head = 10,
+    Level = 11,
+    Rules = 12,
+    Table = 20,
+    Length = 21,
+    AskedAtom = 22,
+    AskedOrder = 23,
+    BoardState = 25,
+    StoreFull = 31,
+    Overlap = 32,
+    ListFull = 33,
+    Search = 34,
+    Line = 36,
+}
+
+impl Refusal {
+    // Its number in document 01.
+    pub fn number(self) -> u64
+        ensures { result ≡ refusal_number self }
+    {
+        self as u64
+    }
+}
+
+// Why a file is refused, and the place in it.
+#[derive(Clone, Copy, PartialEq, Eq)]
+pub struct RefusedAt {
+    pub refusal: Refusal,
+    pub place: usize,
+}
+
 // A record by its kind. The eight places of a rule stand in one number, the first place in its low byte.
-#[derive(Clone, Copy)]
+#[derive(Clone, Copy, PartialEq, Eq)]
 pub enum Record {
     Count(u8),
     Hypothesis(u8, u8, u32),
@@ -34,31 +99,9 @@ pub enum Record {
     End,
 }
 
-// What reading one record answers: the record and the place of the next, or a refusal's number and its place.
-#[derive(Clone, Copy)]
-pub enum Read {
-    At(Record, usize),
-    Refused(u8, usize),
-}
-
-// What loading answers beside the table: accepted, or the refusal's number and its place in the file.
-#[derive(Clone, Copy)]
-pub enum Loaded {
-    Accepted,
-    Refused(u8, usize),
-}
-
-// What loading hands back.
-#[derive(Clone, Copy)]
-pub struct Loading {
-    pub answer: Loaded,
-    pub table: Table,
-}
-
-// What the yes-or-no answers.
-#[derive(Clone, Copy)]
-pub enum Told {
-    Yes,
-    No,
-    Refused(u8),
+// A record that was read, and the place of the next.
+#[derive(Clone, Copy, PartialEq, Eq)]
+pub struct Found {
+    pub record: Record,
+    pub next: usize,
 }

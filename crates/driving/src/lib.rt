@@ -16,7 +16,5 @@ pub extern "C" fn vilthomm_drive(file: &[u8], question: &[u8], allowances: &[u16
     ensures { result ≡ search_after (opened_search (opened_on file.now question.now))
         (driven_runs file.now question.now allowances.now) }
 {
-    let driven = drive(file, question, allowances);
-    let after = driven.after;
-    after.search
+    drive(file, question, allowances).after.search
 }

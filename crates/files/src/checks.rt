@@ -8,12 +8,11 @@ ghost use Rattle.board.specs.Load.{first_failing, field_checks};
 ghost use Rattle.board.specs.EntryPoints.{record_means};
 ghost use Rattle.board.specs.Private.Passes.{Follows};
 ghost use Rattle.files.specs.Private.Seen.{SeenOf, AtomsOf};
-ghost use Rattle.files.specs.Private.Taking.{field_refusal, SeenAfter};
+ghost use Rattle.files.specs.Private.Taking.{field_refusal, SeenAfter, failed_number};
 
 use crate::places::{ascend, top};
-use board::Record;
-use board::walks::wide;
-use sets::mask::{Mask, empty, member, with};
+use board::{Record, Refusal};
+use sets::mask::Mask;
 
 // What the hypotheses so far leave to know of them: how many declarations they have, how many of them are of the last one, and the set of their atoms.
 #[derive(Clone, Copy)]
@@ -23,60 +22,59 @@ pub(crate) struct Seen {
     pub atoms: Mask,
 }
 
-// Before the first hypothesis.
-pub(crate) fn nothing_seen() -> Seen
-    ensures { SeenOf [] result }
-{
-    Seen {
-        declarations: 0,
-        last: 0,
-        atoms: empty(),
+impl Seen {
+    // Before the first hypothesis.
+    pub(crate) fn nothing() -> Seen
+        ensures { SeenOf [] result }
+    {
+        Seen {
+            declarations: 0,
+            last: 0,
+            atoms: Mask::empty(),
+        }
+    }
+
+    // How many hypotheses declaration `number` has so far, where it is the last one or the next. 2 basic steps.
+    fn size_of(self, number: usize) -> usize
+        ensures { (hs : List Hypothesis) → SeenOf hs self → Follows hs number → result ≡ length (declaration hs number) }
+    {
+        if number == self.declarations {
+            0
+        } else {
+            self.last
+        }
+    }
+
+    // With one hypothesis more, which follows. At most some 12 basic steps.
+    pub(crate) fn with(self, d: u8, a: u8) -> Seen
+        requires { self.last ≤ most_hypotheses }
+        ensures { (w : ℕ) → SeenAfter self (hypothesis d a w) result }
+    {
+        let number = usize::from(d);
+        let atoms = self.atoms.with(a);
+        if number == self.declarations {
+            return Seen {
+                declarations: number + 1,
+                last: 1,
+                atoms,
+            };
+        }
+        Seen {
+            last: self.last + 1,
+            atoms,
+            ..self
+        }
     }
 }
 
-// How many hypotheses declaration `number` has so far, where it is the last one or the next. 2 basic steps.
-fn size_of(seen: Seen, number: usize) -> usize
-    ensures { (hs : List Hypothesis) → SeenOf hs seen → Follows hs number → result ≡ length (declaration hs number) }
+// The check that a count record fails, if it fails one.
+fn count_check(n: u8) -> Result<(), Refusal>
+    ensures { (b : Board) → failed_number result ≡ first_failing (field_checks b (count n)) }
 {
-    if number == seen.declarations {
-        0
-    } else {
-        seen.last
+    if n == 0 || 128 < n {
+        return Err(Refusal::Atom);
     }
-}
-
-// With one hypothesis more, which follows. At most some 12 basic steps.
-pub(crate) fn seen_with(seen: Seen, d: u8, a: u8) -> Seen
-    requires { seen.last ≤ most_hypotheses }
-    ensures { (w : ℕ) → SeenAfter seen (hypothesis d a w) result }
-{
-    let number = wide(d);
-    let atoms = with(seen.atoms, a);
-    if number == seen.declarations {
-        return Seen {
-            declarations: number + 1,
-            last: 1,
-            atoms: atoms,
-        };
-    }
-    Seen {
-        declarations: seen.declarations,
-        last: seen.last + 1,
-        atoms: atoms,
-    }
-}
-
-// The number of the check that a count record fails, 0 where it fails none.
-fn count_refusal(n: u8) -> u8
-    ensures { (b : Board) → result ≡ first_failing (field_checks b (count n)) }
-{
-    if n == 0 {
-        return 4;
-    }
-    if 128 < n {
-        return 4;
-    }
-    0
+    Ok(())
 }
 
 // A declaration's number is the last one or the next, where there are so many declarations.
@@ -87,74 +85,77 @@ fn follows(number: usize, declarations: usize) -> bool
     number + 1 == declarations || number == declarations
 }
 
-// The number of the first check that a hypothesis record fails, 0 where it fails none. At most some 30 basic steps.
-pub(crate) fn hypothesis_refusal(atoms: usize, seen: Seen, d: u8, a: u8, w: u32) -> u8
-    ensures { (b : Board) → b.atoms ≡ atoms → SeenOf b.hypotheses seen → result ≡ first_failing (field_checks b (hypothesis d a w)) }
+// The first check that a hypothesis record fails, if it fails one. At most some 30 basic steps.
+pub(crate) fn hypothesis_check(
+    atoms: usize,
+    seen: Seen,
+    d: u8,
+    a: u8,
+    w: u32,
+) -> Result<(), Refusal>
+    ensures { (b : Board) → b.atoms ≡ atoms → SeenOf b.hypotheses seen → failed_number result ≡ first_failing (field_checks b (hypothesis d a w)) }
 {
-    let number = wide(d);
-    if atoms <= wide(a) {
-        return 4;
+    let number = usize::from(d);
+    if atoms <= usize::from(a) {
+        return Err(Refusal::Atom);
     }
-    if 31 < number {
-        return 5;
+    if 31 < number || !follows(number, seen.declarations) {
+        return Err(Refusal::Declaration);
     }
-    if !follows(number, seen.declarations) {
-        return 5;
-    }
-    if member(seen.atoms, a) {
-        return 6;
-    }
-    if 16 <= size_of(seen, number) {
-        return 6;
+    if seen.atoms.member(a) || 16 <= seen.size_of(number) {
+        return Err(Refusal::Hypothesis);
     }
     if w == 0 {
-        return 7;
+        return Err(Refusal::Weight);
     }
-    0
+    Ok(())
 }
 
-// The number of the first check that a rule record fails, 0 where it fails none; `hypotheses` is the set of their atoms. Two walks over the eight
+// The first check that a rule record fails, if it fails one; `hypotheses` is the set of their atoms. Two walks over the eight
 // places: at most some 140 basic steps.
-pub(crate) fn rule_refusal(
+pub(crate) fn rule_check(
     atoms: usize,
     hypotheses: Mask,
     rules: usize,
     head: u8,
     places: u64,
-) -> u8
+) -> Result<(), Refusal>
     ensures { (b : Board) → b.atoms ≡ atoms → AtomsOf b.hypotheses hypotheses → length b.rules ≡ rules
-        → result ≡ first_failing (field_checks b (rule head (low_bytes most_body places))) }
+        → failed_number result ≡ first_failing (field_checks b (rule head (low_bytes most_body places))) }
 {
     let past = top(places);
-    if atoms <= wide(head) {
-        return 4;
-    }
-    if atoms < past {
-        return 4;
+    if atoms <= usize::from(head) || atoms < past {
+        return Err(Refusal::Atom);
     }
     if !ascend(places) {
-        return 9;
+        return Err(Refusal::Body);
     }
-    if member(hypotheses, head) {
-        return 10;
+    if hypotheses.member(head) {
+        return Err(Refusal::Head);
     }
-    if wide(head) < past {
-        return 11;
+    if usize::from(head) < past {
+        return Err(Refusal::Level);
     }
     if 256 <= rules {
-        return 12;
+        return Err(Refusal::Rules);
     }
-    0
+    Ok(())
 }
 
-// The number of the first field check that a record fails, 0 where it fails none; of the end record nothing is asked here.
-pub(crate) fn field_refusal(atoms: usize, rules: usize, seen: Seen, found: Record) -> u8
-    ensures { (b : Board) → b.atoms ≡ atoms → length b.rules ≡ rules → SeenOf b.hypotheses seen → result ≡ field_refusal b (record_means found) }
+// The first field check that a record fails, if it fails one; of the end record nothing is asked here.
+pub(crate) fn field_check(
+    atoms: usize,
+    rules: usize,
+    seen: Seen,
+    found: Record,
+) -> Result<(), Refusal>
+    ensures { (b : Board) → b.atoms ≡ atoms → length b.rules ≡ rules → SeenOf b.hypotheses seen
+        → failed_number result ≡ field_refusal b (record_means found) }
 {
     match found {
-        Record::Count(n) => count_refusal(n),
-        Record::Hypothesis(d, a, w) => hypothesis_refusal(atoms, seen, d, a, w),
-        Record::Rule(head, places) => rule_refusal(atoms, seen.atoms, rules, head, places),
-        Record::End => 0,
+        Record::Count(n) => count_check(n),
+        Record::Hypothesis(d, a, w) => hypothesis_check(atoms, seen, d, a, w),
+        Record::Rule(head, places) => rule_check(atoms, seen.atoms, rules, head, places),
+        Record::End => Ok(()),
     }
 }

@@ -1,131 +1,115 @@
 // Loading a board file (document 01, "The board file").
 ghost use Rattle.std.specs.Prelude.{◌≡◌, List, ℕ, ◌≤◌, length};
 ghost use Rattle.board.specs.Sizes.{most_atoms};
-ghost use Rattle.board.specs.Answers.{refused_at};
+ghost use Rattle.board.specs.Answers.{file_answer_means};
 ghost use Rattle.board.specs.Board.{Board};
 ghost use Rattle.board.specs.Load.{load, misplaced, misplaced_at};
 ghost use Rattle.board.specs.Table.{table_of};
-ghost use Rattle.board.specs.EntryPoints.{read_means, LoadsAs};
+ghost use Rattle.board.specs.EntryPoints.{outcome_of, read_means, LoadsAs};
+ghost use Rattle.files.specs.Private.Kinds.{kind_number};
 ghost use Rattle.files.specs.Private.Seen.{SeenOf};
-ghost use Rattle.files.specs.Private.Taking.{number_in, place_in, passed_record, ending};
+ghost use Rattle.files.specs.Private.Taking.{passed_record, ending};
 
-use crate::checks::{Seen, field_refusal, nothing_seen, seen_with};
+use crate::checks::{Seen, field_check};
 use crate::places::put;
-use crate::record::{known_kind, read_record};
-use crate::zero_table;
-use board::facts::{MOST_W, whole_weight};
-use board::walks::wide;
-use board::{Loaded, Loading, Read, Record, Table};
-
-// A refused load: the number, the place, and the table whose every field is zero.
-fn refused(number: u8, place: usize) -> Loading
-    ensures { LoadsAs (refused_at number place) result }
-{
-    Loading {
-        answer: Loaded::Refused(number, place),
-        table: zero_table(),
-    }
-}
+use crate::record::{Kind, read_record};
+use board::facts::MOST_W;
+use board::{Found, Record, Refusal, RefusedAt, Table};
 
 // Whether a record of this kind may not stand here. At most 5 basic steps.
-fn misplaced_here(kind: u8, atoms: usize, rules: usize) -> bool
-    ensures { (b : Board) → b.atoms ≡ atoms → length b.rules ≡ rules → result ≡ misplaced b kind }
+fn misplaced_here(kind: Kind, atoms: usize, rules: usize) -> bool
+    ensures { (b : Board) → b.atoms ≡ atoms → length b.rules ≡ rules → result ≡ misplaced b (kind_number kind) }
 {
-    if atoms == 0 {
-        return kind != 1;
+    match kind {
+        Kind::Count => atoms != 0,
+        Kind::Hypothesis => atoms == 0 || 0 < rules,
+        Kind::Rule | Kind::End => atoms == 0,
     }
-    kind == 1 || kind == 2 && 0 < rules
 }
 
 // Whether a record of a known kind stands at the place, and may not. At most 12 basic steps.
 fn misplaced_at(file: &[u8], at: usize, atoms: usize, rules: usize) -> bool
     ensures { (b : Board) → b.atoms ≡ atoms → length b.rules ≡ rules → result ≡ misplaced_at file.now at b }
 {
-    at < file.len() && known_kind(file[at]) && misplaced_here(file[at], atoms, rules)
-}
-
-// The number of the refusal that reading a record answered; 0 where a record was read.
-fn number_in(answer: Read) -> u8
-    ensures { result ≡ number_in (read_means answer) }
-{
-    match answer {
-        Read::At(_, _) => 0,
-        Read::Refused(number, _) => number,
+    if let Some(byte) = file.get(at)
+        && let Ok(kind) = Kind::try_from(*byte)
+    {
+        return misplaced_here(kind, atoms, rules);
     }
+    false
 }
 
-// The place that reading a record answered: the refusal's, or that of the next record.
-fn place_in(answer: Read) -> usize
-    ensures { result ≡ place_in (read_means answer) }
-{
-    match answer {
-        Read::At(_, next) => next,
-        Read::Refused(_, place) => place,
-    }
-}
-
-// What loading hands back at an end record at `at`, where the file has `len` bytes and the next record would stand at `next`: 8, then 3, are asked.
+// What loading answers at an end record at `at`, where the file has `len` bytes and the next record would stand at `next`: 8, then 3, are asked.
 // Some 3,000 basic steps.
-fn ended(t: Table, at: usize, next: usize, len: usize) -> Loading
-    requires { t.hypotheses ≤ most_atoms }
-    ensures { (b : Board) (file : List ℕ) → t ≡ table_of b → length file ≡ len → LoadsAs (ending file at next b) result }
+fn ended(t: &Table, at: usize, next: usize, len: usize) -> Result<(), RefusedAt>
+    requires { t.now.hypotheses ≤ most_atoms }
+    ensures { (b : Board) (file : List ℕ) → t.now ≡ table_of b → length file ≡ len
+        → file_answer_means result ≡ outcome_of (ending file at next b) }
 {
-    if MOST_W < whole_weight(&t.declaration, &t.weight, t.hypotheses) {
-        return refused(8, at);
+    if MOST_W < t.whole_weight() {
+        return Err(RefusedAt {
+            refusal: Refusal::Product,
+            place: at,
+        });
     }
     if next < len {
-        return refused(3, next);
+        return Err(RefusedAt {
+            refusal: Refusal::Misplaced,
+            place: next,
+        });
     }
-    Loading {
-        answer: Loaded::Accepted,
-        table: t,
-    }
+    Ok(())
 }
 
 // The record at a place where it may stand and passes its field checks, and the place of the next; or the refusal. What an end record asks is left to
 // `ended`. At most some 270 basic steps.
-fn passed_record(file: &[u8], at: usize, atoms: usize, rules: usize, seen: Seen) -> Read
+fn passed_record(
+    file: &[u8],
+    at: usize,
+    atoms: usize,
+    rules: usize,
+    seen: Seen,
+) -> Result<Found, RefusedAt>
     ensures { (b : Board) → b.atoms ≡ atoms → length b.rules ≡ rules → SeenOf b.hypotheses seen → read_means result ≡ passed_record file.now at b }
 {
     if misplaced_at(file, at, atoms, rules) {
-        return Read::Refused(3, at);
+        return Err(RefusedAt {
+            refusal: Refusal::Misplaced,
+            place: at,
+        });
     }
     let answer = read_record(file, at);
-    let Read::At(found, _) = answer else {
+    let Ok(found) = answer else {
         return answer;
     };
-    let number = field_refusal(atoms, rules, seen, found);
-    if number != 0 {
-        return Read::Refused(number, at);
-    }
-    answer
+    let checked = field_check(atoms, rules, seen, found.record);
+    checked.map_err(|refusal| RefusedAt { refusal, place: at })?;
+    Ok(found)
 }
 
-// Loads a board file: the table, or the number of the refusal and its place. A file is read up to its first failing record, and no more than 386 records
+// Loads a board file: the table, or the refusal and its place. A file is read up to its first failing record, and no more than 386 records
 // pass: 128 hypotheses at some 200 basic steps, 256 rules at some 400, and the end at some 3,000, so at most some 130,000 in all, however long the
 // file. Some 12 KB of stack: the table in hand and its copies, 3 KB each.
-pub fn load(file: &[u8]) -> Loading
+pub fn load(file: &[u8]) -> Result<Table, RefusedAt>
     ensures { LoadsAs (load file.now) result }
 {
-    let mut t = zero_table();
-    let mut seen = nothing_seen();
-    let mut at: usize = 0;
+    let mut t = Table::zero();
+    let mut seen = Seen::nothing();
+    let mut at = 0;
     loop {
         let answer = passed_record(file, at, t.atoms, t.rules, seen);
-        let Read::At(found, next) = answer else {
-            return refused(number_in(answer), place_in(answer));
+        let Ok(found) = answer else {
+            return Err(answer.unwrap_err());
         };
-        match found {
-            Record::Count(n) => {
-                t.atoms = wide(n);
-            }
+        match found.record {
+            Record::Count(n) => t.atoms = usize::from(n),
             Record::Hypothesis(d, a, w) => {
                 let i = t.hypotheses;
                 t.declaration[i] = d;
                 t.atom[i] = a;
                 t.weight[i] = w;
                 t.hypotheses = i + 1;
-                seen = seen_with(seen, d, a);
+                seen = seen.with(d, a);
             }
             Record::Rule(head, places) => {
                 let i = t.rules;
@@ -134,9 +118,10 @@ pub fn load(file: &[u8]) -> Loading
                 t.rules = i + 1;
             }
             Record::End => {
-                return ended(t, at, next, file.len());
+                ended(&t, at, found.next, file.len())?;
+                return Ok(t);
             }
         }
-        at = next;
+        at = found.next;
     }
 }

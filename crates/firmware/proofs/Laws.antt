@@ -3,52 +3,52 @@ pub mod Endings
 pub mod Numbers
 pub mod Sequence
 use Prim.Native.Nat.{ℕ}
-use mathlib.Core.Path.{◌≡◌, refl, ap, ◌∙◌}
+use mathlib.Core.Path.{◌≡◌, refl, sym, ap, ◌∙◌}
+use mathlib.Core.Bool.{Bool, true, false}
+use mir.Val.{bool_byte}
 use Rattle.board.specs.Answers.{FileAnswer, accepted, refused_at, Answer, granted, refused}
 use Rattle.board.specs.Board.{Board}
-use Rattle.board.specs.EntryPoints.{outcome_of, loaded_means, LoadsAs}
-use Rattle.board.specs.declared.Loading.{Loading}
+use Rattle.board.specs.EntryPoints.{table_answer}
+use Rattle.board.specs.Table.{table_in, zero_table}
+use Rattle.board.specs.declared.Table.{Table}
+use Rattle.board.proofs.Promise.{accepted-of, refused_at-of}
+use Rattle.search.specs.EntryPoints.{stored_answer, opened_search}
 use Rattle.search.specs.Search.{Search}
-use Rattle.search.specs.EntryPoints.{opened_outcome, opened_means, OpensAs}
-use Rattle.search.specs.declared.Opening.{Opening}
-use Rattle.firmware.specs.Answers.{file_number, file_place, load_answer, number_of, open_answer}
+use Rattle.search.specs.Store.{zero_stored}
+use Rattle.search.specs.declared.Search.{Search as Stored}
+use Rattle.search.proofs.Laws.EntryPoints.{granted-of, refused-of}
+use Rattle.firmware.specs.Answers.{file_number, file_place, load_answer, number_of, open_answer, held_number, holds_answer}
+use Rattle.firmware.specs.declared.HoldsAnswer.{HoldsAnswer}
 use Rattle.firmware.specs.declared.LoadAnswer.{LoadAnswer}
 use Rattle.firmware.specs.declared.OpenAnswer.{OpenAnswer}
 
--- the number and the place of a refusal stand beside the table as they stand in the answer
-file_number-outcome_of : (answer : FileAnswer Board) → file_number (outcome_of answer) ≡ file_number answer
-unfolding file_number outcome_of
-file_number-outcome_of (accepted b) = refl
-file_number-outcome_of (refused_at number place) = refl
+-- what is handed on of a load: the table, or the refusal's number and place, and the zero table
+module _ (answer : FileAnswer Board) where
+  pub loads-accepted : (t : Table) → accepted t ≡ table_answer answer → Path LoadAnswer (record { number = 0; place = 0; table = t }) (load_answer answer)
+  unfolding load_answer file_number file_place table_in
+  loads-accepted t e =
+      let (b, was, own) = accepted-of answer t e in
+      ap (λ (x : Table). record { number = 0; place = 0; table = x }) own ∙ ap load_answer (sym was)
 
-file_place-outcome_of : (answer : FileAnswer Board) → file_place (outcome_of answer) ≡ file_place answer
-unfolding file_place outcome_of
-file_place-outcome_of (accepted b) = refl
-file_place-outcome_of (refused_at number place) = refl
+  pub loads-refused : (number place : ℕ) → refused_at number place ≡ table_answer answer
+      → Path LoadAnswer (record { number = number; place = place; table = zero_table }) (load_answer answer)
+  unfolding load_answer file_number file_place table_in
+  loads-refused number place e = rw (refused_at-of answer number place e) refl
 
--- what loading handed back, its answer as a number and a place
-pub loads-answer : (answer : FileAnswer Board) (r : Loading) (number place : ℕ) → LoadsAs answer r
-    → number ≡ file_number (loaded_means r.answer) → place ≡ file_place (loaded_means r.answer)
-    → Path LoadAnswer (record { number = number; place = place; table = r.table }) (load_answer answer)
-unfolding load_answer
-loads-answer answer r number place h n p =
-    let e = n ∙ ap file_number h.answers ∙ file_number-outcome_of answer in
-    let f = p ∙ ap file_place h.answers ∙ file_place-outcome_of answer in
-    let g = h.table in
-    cc
+-- what is handed on of an opening: the search, or the refusal's number, and the zero search
+module _ (answer : Answer Search) where
+  pub opens-granted : (s : Stored) → granted s ≡ stored_answer answer → Path OpenAnswer (record { number = 0; search = s }) (open_answer answer)
+  unfolding open_answer number_of opened_search
+  opens-granted s e =
+      let (r, was, own) = granted-of answer s e in
+      ap (λ (x : Stored). record { number = 0; search = x }) own ∙ ap open_answer (sym was)
 
--- the number of a refusal stands beside the search as it stands in the answer
-number_of-opened_outcome : (answer : Answer Search) → number_of (opened_outcome answer) ≡ number_of answer
-unfolding number_of opened_outcome
-number_of-opened_outcome (granted s) = refl
-number_of-opened_outcome (refused number) = refl
+  pub opens-refused : (number : ℕ) → refused number ≡ stored_answer answer → Path OpenAnswer (record { number = number; search = zero_stored }) (open_answer answer)
+  unfolding open_answer number_of opened_search
+  opens-refused number e = rw (refused-of answer number e) refl
 
--- what opening handed back, its answer as a number
-pub opens-answer : (answer : Answer Search) (r : Opening) (number : ℕ) → OpensAs answer r
-    → number ≡ number_of (opened_means r.answer)
-    → Path OpenAnswer (record { number = number; search = r.search }) (open_answer answer)
-unfolding open_answer
-opens-answer answer r number h n =
-    let e = n ∙ ap number_of h.answers ∙ number_of-opened_outcome answer in
-    let g = h.search in
-    cc
+-- what is handed on of a yes-or-no: 1 or 0
+pub held : (b : Bool) → Path HoldsAnswer (record { number = 0; holds = bool_byte b }) (holds_answer (granted b))
+unfolding holds_answer number_of held_number
+held true = refl
+held false = refl

@@ -5,22 +5,22 @@
 
 ghost use Rattle.std.specs.Prelude.{◌≡◌};
 ghost use Rattle.std.proofs.Math.Option.{some};
+ghost use Rattle.board.specs.Answers.{answer_means};
 ghost use Rattle.board.specs.Load.{load};
 ghost use Rattle.board.specs.EntryPoints.{yes_or_no};
 ghost use Rattle.search.specs.Search.{bench};
 ghost use Rattle.search.specs.EntryPoints.{open_question, run_search, ending_means, share_of};
 ghost use Rattle.search.specs.Listing.{listing};
 ghost use Rattle.text.specs.Lent.{LentAs};
-ghost use Rattle.firmware.specs.Answers.{load_answer, open_answer, ending_number, run_answer, share_answer, holds_answer, total_of, total_answer};
+ghost use Rattle.firmware.specs.Answers.{load_answer, open_answer, ending_number, run_answer, share_answer, holds_answer, number_of, granted_number, total_of, total_answer};
 
-use board::facts::whole_weight;
-use board::{Loaded, Table, Told};
+use board::{Refusal, Table};
 use files::accepted::is_table;
 use files::load::load;
 use holding::yes_or_no;
 use opening::open;
 use running::run;
-use search::{Ending, Opened, Search, Share};
+use search::{Ending, Search};
 use shares::share;
 use text::listing;
 
@@ -81,19 +81,16 @@ pub struct TotalAnswer {
 pub extern "C" fn vilthomm_load(file: &[u8]) -> LoadAnswer
     ensures { result ≡ load_answer (load file.now) }
 {
-    let loading = load(file);
-    let answer = loading.answer;
-    let table = loading.table;
-    match answer {
-        Loaded::Accepted => LoadAnswer {
+    match load(file) {
+        Ok(table) => LoadAnswer {
             number: 0,
             place: 0,
-            table: table,
+            table,
         },
-        Loaded::Refused(number, place) => LoadAnswer {
-            number: number as u64,
-            place: place,
-            table: table,
+        Err(refused) => LoadAnswer {
+            number: refused.refusal.number(),
+            place: refused.place,
+            table: Table::zero(),
         },
     }
 }
@@ -103,17 +100,11 @@ pub extern "C" fn vilthomm_load(file: &[u8]) -> LoadAnswer
 pub extern "C" fn vilthomm_open(table: Table, question: &[u8]) -> OpenAnswer
     ensures { result ≡ open_answer (open_question table question.now) }
 {
-    let opening = open(table, question);
-    let answer = opening.answer;
-    let search = opening.search;
-    match answer {
-        Opened::Accepted => OpenAnswer {
-            number: 0,
-            search: search,
-        },
-        Opened::Refused(number) => OpenAnswer {
-            number: number as u64,
-            search: search,
+    match open(&table, question) {
+        Ok(search) => OpenAnswer { number: 0, search },
+        Err(refusal) => OpenAnswer {
+            number: refusal.number(),
+            search: Search::zero(),
         },
     }
 }
@@ -125,7 +116,7 @@ fn ending_number(ending: Ending) -> u64
     match ending {
         Ending::Done => 0,
         Ending::More => 1,
-        Ending::Refused(number) => number as u64,
+        Ending::Refused(refusal) => refusal.number(),
     }
 }
 
@@ -134,15 +125,25 @@ fn ending_number(ending: Ending) -> u64
 pub extern "C" fn vilthomm_run(table: Table, search: Search, allowance: u16) -> RunAnswer
     ensures { result ≡ run_answer (run_search bench table search allowance) }
 {
-    let ran = run(table, search, allowance);
-    let after = ran.search;
-    let ended = ran.ending;
+    let mut search = search;
+    let ran = run(&table, &mut search, allowance);
     RunAnswer {
-        search: after,
-        ending: ending_number(ended),
-        steps: ran.steps as u64,
+        search,
+        ending: ending_number(ran.ending),
+        steps: u64::from(ran.steps),
         low: ran.low,
         high: ran.high,
+    }
+}
+
+// The number of an answer, 0 where nothing was refused, and its value, 0 beside a refusal.
+fn number_and_value(answer: Result<u64, Refusal>) -> (u64, u64)
+    ensures number { result.0 ≡ number_of (answer_means answer) }
+    ensures value { result.1 ≡ granted_number (answer_means answer) }
+{
+    match answer {
+        Ok(value) => (0, value),
+        Err(refusal) => (refusal.number(), 0),
     }
 }
 
@@ -151,15 +152,10 @@ pub extern "C" fn vilthomm_run(table: Table, search: Search, allowance: u16) -> 
 pub extern "C" fn vilthomm_share(table: Table, search: Search, line: usize) -> ShareAnswer
     ensures { result ≡ share_answer (share_of bench table search line) }
 {
-    match share(table, search, line) {
-        Share::Thousandths(n) => ShareAnswer {
-            number: 0,
-            thousandths: n,
-        },
-        Share::Refused(number) => ShareAnswer {
-            number: number as u64,
-            thousandths: 0,
-        },
+    let (number, thousandths) = number_and_value(share(&table, &search, line));
+    ShareAnswer {
+        number,
+        thousandths,
     }
 }
 
@@ -168,20 +164,26 @@ pub extern "C" fn vilthomm_share(table: Table, search: Search, line: usize) -> S
 pub extern "C" fn vilthomm_yes_or_no(table: Table, state: &[u8], atom: u8) -> HoldsAnswer
     ensures { result ≡ holds_answer (yes_or_no table state.now atom) }
 {
-    match yes_or_no(table, state, atom) {
-        Told::Yes => HoldsAnswer {
+    match yes_or_no(&table, state, atom) {
+        Ok(holds) => HoldsAnswer {
             number: 0,
-            holds: 1,
+            holds: u64::from(holds),
         },
-        Told::No => HoldsAnswer {
-            number: 0,
-            holds: 0,
-        },
-        Told::Refused(number) => HoldsAnswer {
-            number: number as u64,
+        Err(refusal) => HoldsAnswer {
+            number: refusal.number(),
             holds: 0,
         },
     }
+}
+
+// W of the table, where a file loads to it.
+fn total(table: &Table) -> Result<u64, Refusal>
+    ensures { answer_means result ≡ total_of table.now }
+{
+    if !is_table(table) {
+        return Err(Refusal::Table);
+    }
+    Ok(table.whole_weight())
 }
 
 // W of the table: what the weights of all its board states add up to.
@@ -189,16 +191,8 @@ pub extern "C" fn vilthomm_yes_or_no(table: Table, state: &[u8], atom: u8) -> Ho
 pub extern "C" fn vilthomm_total(table: Table) -> TotalAnswer
     ensures { result ≡ total_answer (total_of table) }
 {
-    if !is_table(table) {
-        return TotalAnswer {
-            number: 20,
-            total: 0,
-        };
-    }
-    TotalAnswer {
-        number: 0,
-        total: whole_weight(&table.declaration, &table.weight, table.hypotheses),
-    }
+    let (number, total) = number_and_value(total(&table));
+    TotalAnswer { number, total }
 }
 
 // Puts the listing for a board file and an input into `text`, which has room for every listing from 37,203 bytes on, and answers how many bytes it has. With

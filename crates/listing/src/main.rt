@@ -5,45 +5,27 @@
 // answered.
 #![tactic(auto)]
 
-ghost use Rattle.std.specs.Prelude.{◌≤◌, length};
-
+use std::alloc::Global;
 use std::io::{Read, Write};
-use std::rt::Files;
 use std::{fs, io};
 use text::{FILE_BYTES, INPUT_BYTES, TEXT_BYTES, listing};
 
-// Reads until the buffer is full, nothing is left or a read fails, and answers how many bytes stand at its beginning then.
-fn read_full<R: Read>(reader: &mut R, buffer: &mut [u8]) -> usize
-    ensures { result ≤ length buffer.new }
-{
-    let mut done = 0;
-    while done < buffer.len() {
-        match reader.read(&mut buffer[done..]) {
-            Ok(0) => break,
-            Ok(n) => done += n,
-            Err(_) => break,
-        }
-    }
-    done
+// The first `n` bytes of what a reader gives, as far as it can be read. There is room for them before it is read, so a lack of memory is no shorter file.
+fn beginning(alloc: Global, reader: impl Read + Drop, n: usize) -> io::Result<Vec<u8>> {
+    let mut bytes = Vec::with_capacity(alloc, n)?;
+    let _ = reader.take(n as u64).read_to_end(&mut bytes);
+    Ok(bytes)
 }
 
-// Reads the beginning of the board file into `file` and answers how many bytes it has.
-fn read_board(rt: &impl Files, file: &mut [u8]) -> usize
-    ensures { result ≤ length file.new }
-{
-    match fs::open(rt, "board.pha") {
-        Ok(mut board) => read_full(&mut board, file),
-        Err(_) => 0,
-    }
-}
-
-// A write that fails ends it with an error.
+// A write that fails ends it with an error, and so does a lack of memory.
 fn main(rt: HostRuntime) -> io::Result<()> {
-    let mut file = [0u8; FILE_BYTES];
-    let file_bytes = read_board(&rt, &mut file);
-    let mut input = [0u8; INPUT_BYTES];
-    let input_bytes = read_full(&mut rt.stdin(), &mut input);
-    let mut text = [0u8; TEXT_BYTES];
-    let n = listing(&file[..file_bytes], &input[..input_bytes], &mut text);
+    let alloc = rt.alloc();
+    let file = match fs::open(&rt, "board.pha") {
+        Ok(board) => beginning(alloc, board, FILE_BYTES)?,
+        Err(_) => Vec::new(alloc),
+    };
+    let input = beginning(alloc, rt.stdin(), INPUT_BYTES)?;
+    let mut text = [0; TEXT_BYTES];
+    let n = listing(&file, &input, &mut text);
     rt.stdout().write_all(&text[..n])
 }

@@ -1,111 +1,111 @@
 // The acts of an item: what each does to the table and to the search, and what it prints.
-ghost use Rattle.std.specs.Prelude.{◌<◌, ◌≤◌, length};
-
-use crate::container::{after_atoms, atoms, byte_at, eight_bytes, past, two_bytes};
-use crate::field::{set_in_search, set_in_table};
+use crate::container::Reader;
+use crate::field::Field;
 use crate::print::{print_opened, print_ran, print_share};
 use crate::state::print_search;
 use crate::truth::print_true;
 use board::Table;
+use opening::open;
+use running::run;
 use search::Search;
+use shares::share;
+use std::alloc::Global;
 use std::io;
 use std::io::Write;
 
-// The first byte of an act.
-const OPEN: usize = 1;
-
-const RUN: usize = 2;
-
-const SHARE: usize = 3;
-
-const SET_IN_SEARCH: usize = 4;
-
-const SET_IN_TABLE: usize = 5;
-
-const TRUE_WEIGHT: usize = 6;
-
-// What the acts are carried out on, and the place of the question last opened.
+// An act, with what it needs.
 #[derive(Clone, Copy)]
-struct Held {
+enum Act<'a> {
+    Open(&'a [u8]),
+    Run(u16),
+    Share(u64),
+    SetInSearch(Field),
+    SetInTable(Field),
+    TrueWeight,
+    Nothing,
+}
+
+// The next field, index and value.
+fn next_field(script: &mut Reader<'_>) -> Field {
+    Field {
+        number: script.byte(),
+        index: usize::from(script.two()),
+        value: script.eight(),
+    }
+}
+
+// The next act of a script. A byte that stands for none is an act that does nothing.
+fn next_act<'a>(script: &mut Reader<'a>) -> Act<'a> {
+    match script.byte() {
+        1 => Act::Open(script.atoms()),
+        2 => Act::Run(script.two()),
+        3 => Act::Share(script.eight()),
+        4 => Act::SetInSearch(next_field(script)),
+        5 => Act::SetInTable(next_field(script)),
+        6 => Act::TrueWeight,
+        _ => Act::Nothing,
+    }
+}
+
+// What the acts are carried out on, and the question last opened.
+#[derive(Drop)]
+struct Held<'a> {
     table: Table,
     search: Search,
-    asked: usize,
+    asked: &'a [u8],
 }
 
-// Opens the question, prints the answer, and hands back the search that it leaves.
-fn opened<W: Write>(out: &mut W, t: Table, question: &[u8]) -> io::Result<Search> {
-    let opening = opening::open(t, question);
-    let answer = opening.answer;
-    let left = opening.search;
-    print_opened(out, answer)?;
-    print_search(out, left)?;
-    Ok(left)
-}
-
-// Runs the search, prints the answer, and hands back the search that it leaves.
-fn ran<W: Write>(out: &mut W, t: Table, held: Search, allowance: u16) -> io::Result<Search> {
-    let run = running::run(t, held, allowance);
-    let ending = run.ending;
-    let left = run.search;
-    print_ran(out, ending, run.steps, run.low, run.high)?;
-    print_search(out, left)?;
-    Ok(left)
-}
-
-// The place of the act after the one at `at`.
-fn next_act(s: &[u8], at: usize) -> usize
-    requires { at < length s.now }
-    ensures { (at < result) × (result ≤ length s.now) }
-{
-    let from = past(s, at, 1);
-    match byte_at(s, at) {
-        OPEN => after_atoms(s, from),
-        RUN => past(s, from, 2),
-        SHARE => past(s, from, 8),
-        SET_IN_SEARCH | SET_IN_TABLE => past(s, from, 11),
-        _ => from,
+impl<'a> Held<'a> {
+    // Opens the question, prints the answer, and keeps the search that it leaves.
+    fn open<W: Write>(&mut self, out: &mut W, question: &'a [u8]) -> io::Result<()> {
+        let opened = open(&self.table, question);
+        self.asked = question;
+        self.search = opened.unwrap_or(Search::zero());
+        print_opened(out, opened.map(|_| ()))?;
+        print_search(out, &self.search)
     }
-}
 
-// What the act at `at` leaves. It prints what the act answers.
-fn after_act<W: Write>(out: &mut W, s: &[u8], at: usize, held: Held) -> io::Result<Held> {
-    let mut table = held.table;
-    let mut search = held.search;
-    let mut asked = held.asked;
-    let from = past(s, at, 1);
-    let field = byte_at(s, from);
-    let index = two_bytes(s, past(s, from, 1));
-    let value = eight_bytes(s, past(s, from, 3));
-    match byte_at(s, at) {
-        OPEN => {
-            search = opened(out, table, atoms(s, from))?;
-            asked = from;
+    // Carries out an act, and prints what it answers.
+    fn act<W: Write>(&mut self, alloc: Global, out: &mut W, act: Act<'a>) -> io::Result<()> {
+        match act {
+            Act::Open(question) => self.open(out, question),
+            Act::Run(allowance) => {
+                print_ran(out, run(&self.table, &mut self.search, allowance))?;
+                print_search(out, &self.search)
+            }
+            Act::Share(line) => print_share(out, share(&self.table, &self.search, line as usize)),
+            Act::SetInSearch(field) => {
+                field.set_in_search(&mut self.search);
+                Ok(())
+            }
+            Act::SetInTable(field) => {
+                field.set_in_table(&mut self.table);
+                Ok(())
+            }
+            Act::TrueWeight => print_true(alloc, out, &self.table, self.asked),
+            Act::Nothing => Ok(()),
         }
-        RUN => search = ran(out, table, search, two_bytes(s, from) as u16)?,
-        SHARE => print_share(out, shares::share(table, search, eight_bytes(s, from)))?,
-        SET_IN_SEARCH => search = set_in_search(search, field, index, value),
-        SET_IN_TABLE => table = set_in_table(table, field, index, value),
-        TRUE_WEIGHT => print_true(out, table, atoms(s, asked))?,
-        _ => {}
     }
-    Ok(Held {
-        table,
-        search,
-        asked,
-    })
 }
 
-// All acts of an item. Before the first opening the question has no atom.
-pub(crate) fn acts<W: Write>(out: &mut W, t: Table, s: &[u8]) -> io::Result<()> {
+// All acts of an item, each of a byte at least. Before the first opening the question has no atom.
+pub(crate) fn acts<W: Write>(
+    alloc: Global,
+    out: &mut W,
+    table: Table,
+    script: &[u8],
+) -> io::Result<()> {
     let mut held = Held {
-        table: t,
-        search: search::zero_search(),
-        asked: s.len(),
+        table,
+        search: Search::zero(),
+        asked: &[],
     };
-    let mut at = 0;
-    while at < s.len() {
-        held = after_act(out, s, at, held)?;
-        at = next_act(s, at);
+    let mut script = Reader::new(script);
+    for _ in 0..script.len() {
+        if script.len() == 0 {
+            break;
+        }
+        held.act(alloc, out, next_act(&mut script))?;
     }
     Ok(())
 }

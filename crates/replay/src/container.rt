@@ -1,73 +1,66 @@
-// The containers that the program reads. Every place is taken: what would stand past the end is 0 or missing, and no place that is answered is past it.
-ghost use Rattle.std.specs.Prelude.{◌≡◌, ◌+◌, ◌<◌, ◌≤◌, min, length};
+// The containers that the program reads, and parts of them, from the left: what would stand past the end is 0 or missing.
 
-use board::walks::wide;
+// What is left of a container, or of a part of one.
+#[derive(Clone, Copy)]
+pub(crate) struct Reader<'a> {
+    rest: &'a [u8],
+}
 
-// The byte at a place.
-pub(crate) fn byte_at(s: &[u8], at: usize) -> usize
-    ensures { result < 256 }
-{
-    if at < s.len() {
-        return wide(s[at]);
+impl<'a> Reader<'a> {
+    pub(crate) fn new(bytes: &'a [u8]) -> Reader<'a> {
+        Reader { rest: bytes }
     }
-    0
-}
 
-// The number in two bytes, low byte first.
-pub(crate) fn two_bytes(s: &[u8], at: usize) -> usize
-    ensures { result < 65536 }
-{
-    byte_at(s, at) + 256 * byte_at(s, past(s, at, 1))
-}
-
-// The number in four bytes, low byte first.
-pub(crate) fn four_bytes(s: &[u8], at: usize) -> usize
-    ensures { result < 4294967296 }
-{
-    two_bytes(s, at) + 65536 * two_bytes(s, past(s, at, 2))
-}
-
-// The number in eight bytes, low byte first.
-pub(crate) fn eight_bytes(s: &[u8], at: usize) -> usize {
-    four_bytes(s, at) + 4294967296 * four_bytes(s, past(s, at, 4))
-}
-
-// The place that is `n` bytes on, or the end.
-pub(crate) fn past(s: &[u8], at: usize, n: usize) -> usize
-    ensures { result ≡ min (at + n) (length s.now) }
-{
-    let len = s.len();
-    if len <= at {
-        return len;
+    // How many bytes are left.
+    pub(crate) fn len(&self) -> usize {
+        self.rest.len()
     }
-    if n < len - at { at + n } else { len }
-}
 
-// The `n` bytes at a place, or as many as there are.
-pub(crate) fn bytes(s: &[u8], at: usize, n: usize) -> &[u8] {
-    let start = past(s, at, 0);
-    let end = past(s, start, n);
-    &s[start..end]
-}
+    // The next `n` bytes, or as many as there are.
+    pub(crate) fn bytes(&mut self, n: usize) -> &'a [u8] {
+        let (taken, rest) = self.rest.split_at(n.min(self.rest.len()));
+        self.rest = rest;
+        taken
+    }
 
-// The bytes that follow their count in two bytes, and the place after them.
-pub(crate) fn part(s: &[u8], at: usize) -> &[u8] {
-    bytes(s, past(s, at, 2), two_bytes(s, at))
-}
+    // The number in the next `n` bytes, low byte first.
+    fn number(&mut self, n: usize) -> u64 {
+        let mut bytes = [0; 8];
+        for (to, from) in bytes.iter_mut().zip(self.bytes(n)) {
+            *to = *from;
+        }
+        u64::from_le_bytes(bytes)
+    }
 
-pub(crate) fn after_part(s: &[u8], at: usize) -> usize
-    ensures { (min (at + 2) (length s.now) ≤ result) × (result ≤ length s.now) }
-{
-    past(s, past(s, at, 2), two_bytes(s, at))
-}
+    // The next byte.
+    pub(crate) fn byte(&mut self) -> u8 {
+        (self.number(1) & 0xff) as u8
+    }
 
-// The atoms that follow their count in one byte, and the place after them.
-pub(crate) fn atoms(s: &[u8], at: usize) -> &[u8] {
-    bytes(s, past(s, at, 1), byte_at(s, at))
-}
+    // The number in two bytes.
+    pub(crate) fn two(&mut self) -> u16 {
+        (self.number(2) & 0xffff) as u16
+    }
 
-pub(crate) fn after_atoms(s: &[u8], at: usize) -> usize
-    ensures { (min (at + 1) (length s.now) ≤ result) × (result ≤ length s.now) }
-{
-    past(s, past(s, at, 1), byte_at(s, at))
+    // The number in four bytes.
+    pub(crate) fn four(&mut self) -> u32 {
+        (self.number(4) & 0xffff_ffff) as u32
+    }
+
+    // The number in eight bytes.
+    pub(crate) fn eight(&mut self) -> u64 {
+        self.number(8)
+    }
+
+    // The bytes that follow their count in two bytes.
+    pub(crate) fn part(&mut self) -> &'a [u8] {
+        let n = usize::from(self.two());
+        self.bytes(n)
+    }
+
+    // The atoms that follow their count in one byte.
+    pub(crate) fn atoms(&mut self) -> &'a [u8] {
+        let n = usize::from(self.byte());
+        self.bytes(n)
+    }
 }

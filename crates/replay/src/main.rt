@@ -21,9 +21,9 @@
 // What is printed of each answer is said in `print`, of a search in `state`.
 #![tactic(auto)]
 
-ghost use Rattle.std.specs.Prelude.{◌≡◌, ◌≤◌, length};
-
-use item::{Kind, item, next_item};
+use container::Reader;
+use item::{acts_item, board_item, driven_item, record_item, state_item, table_item};
+use std::alloc::Global;
 use std::io::{BufWriter, Read, Write};
 use std::rt::Files;
 use std::{fs, io};
@@ -36,76 +36,54 @@ mod print;
 mod state;
 mod truth;
 
-// All items of a container.
-fn items<W: Write>(out: &mut W, kind: Kind, s: &[u8]) -> io::Result<()> {
-    let mut at = 0;
-    while at < s.len() {
-        item(out, kind, s, at)?;
-        at = next_item(kind, s, at);
-    }
-    Ok(())
-}
+// The most bytes of a container that are read.
+const CONTAINER_BYTES: usize = 262_144;
 
-// Reads until the buffer is full, nothing is left or a read fails, and answers how many bytes stand at its beginning then.
-fn read_full<R: Read>(reader: &mut R, buffer: &mut [u8]) -> usize
-    ensures { result ≤ length buffer.new }
-{
-    let mut done = 0;
-    while done < buffer.len() {
-        match reader.read(&mut buffer[done..]) {
-            Ok(0) => break,
-            Ok(n) => done += n,
-            Err(_) => break,
-        }
-    }
-    done
-}
-
-// Reads the file into the buffer, and answers how many bytes it has, 0 where it will not open; that is said on standard error.
-fn read_file(rt: &(impl Files + Eprint), path: &str, buffer: &mut [u8]) -> usize
-    ensures { result ≤ length buffer.new }
-{
+// What stands in the file, as far as it can be read; nothing where it will not open, which is said on standard error. There is room for it before it is read,
+// so a lack of memory is no shorter file.
+fn contents(rt: &(impl Files + AllocGlobal + Eprint), path: &str) -> io::Result<Vec<u8>> {
+    let mut bytes = Vec::with_capacity(rt.alloc(), CONTAINER_BYTES)?;
     match fs::open(rt, path) {
-        Ok(mut file) => read_full(&mut file, buffer),
+        Ok(file) => {
+            let _ = file.take(CONTAINER_BYTES as u64).read_to_end(&mut bytes);
+        }
         Err(error) => {
             let _ = eprintln!(rt; "{path}: {error}");
-            0
         }
     }
+    Ok(bytes)
 }
 
-// Room for a container.
-fn room() -> [u8; 262144]
-    ensures { 262144 ≡ length result }
-{
-    [0; 262144]
-}
-
-// Carries out all of a container.
-fn replay<W: Write>(
-    rt: &(impl Files + Eprint),
+// Carries out all items of a container, each of a byte at least.
+fn replay<W: Write, F: FnMut(Global, &mut W, &mut Reader<'_>) -> io::Result<()>>(
+    rt: &(impl Files + AllocGlobal + Eprint),
     out: &mut W,
     path: &str,
-    kind: Kind,
-    buffer: &mut [u8],
-) -> io::Result<()> {
-    let n = read_file(rt, path, buffer);
-    items(out, kind, &buffer[..n])
+    mut item: F,
+) -> io::Result<()>
+    requires { F.IsAlwaysCallable item }
+{
+    let bytes = contents(rt, path)?;
+    let mut container = Reader::new(&bytes);
+    for _ in 0..container.len() {
+        if container.len() == 0 {
+            break;
+        }
+        item(rt.alloc(), out, &mut container)?;
+    }
+    Ok(())
 }
 
 // A write that fails ends it with an error.
 fn main(rt: HostRuntime) -> io::Result<()> {
     let mut out = BufWriter::new(rt.alloc(), rt.stdout())?;
-    let mut space = room();
-    let buffer: &mut [u8] = &mut space;
-    replay(&rt, &mut out, "boards.bin", Kind::Boards, buffer)?;
-    replay(&rt, &mut out, "states.bin", Kind::States, buffer)?;
-    replay(&rt, &mut out, "records.bin", Kind::Records, buffer)?;
-    replay(&rt, &mut out, "tables.bin", Kind::Tables, buffer)?;
-    replay(&rt, &mut out, "runs.bin", Kind::Acts, buffer)?;
-    replay(&rt, &mut out, "handed.bin", Kind::Acts, buffer)?;
-    replay(&rt, &mut out, "shares.bin", Kind::Acts, buffer)?;
-    replay(&rt, &mut out, "changed.bin", Kind::Acts, buffer)?;
-    replay(&rt, &mut out, "driven.bin", Kind::Driven, buffer)?;
+    replay(&rt, &mut out, "boards.bin", board_item)?;
+    replay(&rt, &mut out, "states.bin", state_item)?;
+    replay(&rt, &mut out, "records.bin", record_item)?;
+    replay(&rt, &mut out, "tables.bin", table_item)?;
+    for path in ["runs.bin", "handed.bin", "shares.bin", "changed.bin"] {
+        replay(&rt, &mut out, path, acts_item)?;
+    }
+    replay(&rt, &mut out, "driven.bin", driven_item)?;
     out.flush()
 }

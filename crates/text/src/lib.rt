@@ -9,6 +9,7 @@ mod put;
 
 ghost use Rattle.std.specs.Prelude.{◌≡◌, ◌++◌, ◌≤◌, T, length};
 ghost use Rattle.std.proofs.Math.Option.{some};
+ghost use Rattle.board.specs.Answers.{refusal_number};
 ghost use Rattle.board.specs.Table.{board_of, is_table};
 ghost use Rattle.search.specs.EntryPoints.{open_question, ending_means, run_search};
 ghost use Rattle.search.specs.Search.{bench};
@@ -17,15 +18,13 @@ ghost use Rattle.text.specs.Deciding.{file_bytes, input_bytes};
 ghost use Rattle.text.specs.Lent.{most_text, LentAs};
 ghost use Rattle.text.specs.Private.Putting.{HasRoom, PutAs};
 
-use board::facts::whole_weight;
-use board::walks::{wide, wide16};
-use board::{Loaded, Table};
+use board::{Refusal, RefusedAt, Table};
 use files::load::load;
 use lines::put_lines;
 use opening::open;
 use put::{put_bytes, put_ended, put_labelled};
 use running::run;
-use search::{Ending, Opened, Search};
+use search::{Ending, Ran, Search};
 
 // How many bytes have room for every listing (`most_text`).
 pub const TEXT_BYTES: usize = 37203;
@@ -58,83 +57,78 @@ fn put_ending(text: &mut [u8], at: usize, ending: Ending) -> usize
     match ending {
         Ending::Done => put_bytes(text, at, b" done\n"),
         Ending::More => put_bytes(text, at, b" more\n"),
-        Ending::Refused(number) => put_ended(text, at, b" ", number as u64),
+        Ending::Refused(refusal) => put_ended(text, at, b" ", refusal.number()),
     }
 }
 
 // Puts the last line.
-fn put_last(text: &mut [u8], at: usize, low: u64, high: u64, steps: u32, ending: Ending) -> usize
-    requires { HasRoom text.old at (ends_text low high steps (ending_means ending)) }
-    ensures { PutAs text.old at (ends_text low high steps (ending_means ending)) text.new result }
+fn put_last(text: &mut [u8], at: usize, ran: Ran) -> usize
+    requires { HasRoom text.old at (ends_text ran.low ran.high ran.steps (ending_means ran.ending)) }
+    ensures { PutAs text.old at (ends_text ran.low ran.high ran.steps (ending_means ran.ending)) text.new result }
 {
-    let first = put_labelled(text, at, b"low ", low);
-    let second = put_labelled(text, first, b" high ", high);
-    let third = put_labelled(text, second, b" steps ", steps as u64);
-    put_ending(text, third, ending)
+    let first = put_labelled(text, at, b"low ", ran.low);
+    let second = put_labelled(text, first, b" high ", ran.high);
+    let third = put_labelled(text, second, b" steps ", u64::from(ran.steps));
+    put_ending(text, third, ran.ending)
 }
 
 // Puts what is printed of a refused question.
-fn put_refused(text: &mut [u8], number: u8) -> usize
+fn put_refused(text: &mut [u8], refusal: Refusal) -> usize
     requires { most_text ≤ length text.old }
-    ensures { PutAs text.old 0 (refused_text number) text.new result }
+    ensures { PutAs text.old 0 (refused_text (refusal_number refusal)) text.new result }
 {
-    put_ended(text, 0, b"refused ", number as u64)
+    put_ended(text, 0, b"refused ", refusal.number())
 }
 
 // Puts what is printed of a refused file.
-fn put_refused_file(text: &mut [u8], number: u8, place: usize) -> usize
-    requires { HasRoom text.old 0 (refused_file_text number place) }
-    ensures { PutAs text.old 0 (refused_file_text number place) text.new result }
+fn put_refused_file(text: &mut [u8], refused: RefusedAt) -> usize
+    requires { HasRoom text.old 0 (refused_file_text (refusal_number refused.refusal) refused.place) }
+    ensures { PutAs text.old 0 (refused_file_text (refusal_number refused.refusal) refused.place) text.new result }
 {
-    let at = put_labelled(text, 0, b"refused ", number as u64);
-    put_ended(text, at, b" at ", place as u64)
+    let at = put_labelled(text, 0, b"refused ", refused.refusal.number());
+    put_ended(text, at, b" at ", refused.place as u64)
 }
 
 // Runs a search and puts what is printed of the run.
-fn put_run(text: &mut [u8], t: Table, from: Search, allowance: u16) -> usize
-    requires some_table { T (is_table t) }
-    requires has_room { HasRoom text.old 0 (ran_text (board_of t) (run_search bench t from allowance)) }
-    ensures { PutAs text.old 0 (ran_text (board_of t) (run_search bench t from allowance)) text.new result }
+fn put_run(text: &mut [u8], t: &Table, search: &mut Search, allowance: u16) -> usize
+    requires some_table { T (is_table t.now) }
+    requires has_room { HasRoom text.old 0 (ran_text (board_of t.now) (run_search bench t.now search.old allowance)) }
+    ensures { PutAs text.old 0 (ran_text (board_of t.now) (run_search bench t.now search.old allowance)) text.new result }
 {
-    let ran = run(t, from, allowance);
-    let ending = ran.ending;
-    let whole = whole_weight(&t.declaration, &t.weight, t.hypotheses);
-    let lines = put_ended(text, 0, b"total ", whole);
-    let end = put_lines(text, lines, &ran.search.line, ran.search.lines);
-    put_last(text, end, ran.low, ran.high, ran.steps, ending)
+    let ran = run(t, search, allowance);
+    let lines = put_ended(text, 0, b"total ", t.whole_weight());
+    let end = put_lines(text, lines, &search.line, search.lines);
+    put_last(text, end, ran)
 }
 
 // Opens a question and puts what is printed of it.
-fn put_opened(text: &mut [u8], t: Table, question: &[u8], allowance: u16) -> usize
-    requires some_table { T (is_table t) }
+fn put_opened(text: &mut [u8], t: &Table, question: &[u8], allowance: u16) -> usize
+    requires some_table { T (is_table t.now) }
     requires most_text_in_bounds { most_text ≤ length text.old }
-    ensures { PutAs text.old 0 (opened_text bench (board_of t) (open_question t question.now) allowance)
+    ensures { PutAs text.old 0 (opened_text bench (board_of t.now) (open_question t.now question.now) allowance)
         text.new result }
 {
-    let opening = open(t, question);
-    let answer = opening.answer;
-    let from = opening.search;
-    match answer {
-        Opened::Accepted => put_run(text, t, from, allowance),
-        Opened::Refused(number) => put_refused(text, number),
+    match open(t, question) {
+        Ok(mut search) => put_run(text, t, &mut search, allowance),
+        Err(refusal) => put_refused(text, refusal),
     }
 }
 
 // Takes the input apart and puts what is printed of it.
-fn put_asked(text: &mut [u8], t: Table, input: &[u8]) -> usize
-    requires some_table { T (is_table t) }
+fn put_asked(text: &mut [u8], t: &Table, input: &[u8]) -> usize
+    requires some_table { T (is_table t.now) }
     requires most_text_in_bounds { most_text ≤ length text.old }
-    ensures { PutAs text.old 0 (asked_text bench (board_of t) input.now) text.new result }
+    ensures { PutAs text.old 0 (asked_text bench (board_of t.now) input.now) text.new result }
 {
-    if input.len() == 0 {
-        return put_refused(text, 21);
+    let Some((count, rest)) = input.split_first() else {
+        return put_refused(text, Refusal::Length);
+    };
+    let asked = usize::from(*count);
+    if rest.len() < asked + 2 {
+        return put_refused(text, Refusal::Length);
     }
-    let end = 1 + wide(input[0]);
-    if input.len() < end + 2 {
-        return put_refused(text, 21);
-    }
-    let allowance = wide16(input[end]) + 256 * wide16(input[end + 1]);
-    put_opened(text, t, &input[1..end], allowance)
+    let allowance = u16::from_le_bytes([rest[asked], rest[asked + 1]]);
+    put_opened(text, t, &rest[..asked], allowance)
 }
 
 // Puts the listing for a board file and an input into `text` and answers how many bytes it has. `text` has room for every listing from `TEXT_BYTES` on; with less
@@ -145,11 +139,8 @@ pub fn listing(file: &[u8], input: &[u8], text: &mut [u8]) -> usize
     if text.len() < TEXT_BYTES {
         return 0;
     }
-    let loading = load(file);
-    let answer = loading.answer;
-    let t = loading.table;
-    match answer {
-        Loaded::Accepted => put_asked(text, t, input),
-        Loaded::Refused(number, place) => put_refused_file(text, number, place),
+    match load(file) {
+        Ok(t) => put_asked(text, &t, input),
+        Err(refused) => put_refused_file(text, refused),
     }
 }

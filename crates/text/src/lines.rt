@@ -7,15 +7,15 @@ ghost use Rattle.text.specs.Private.Putting.{HasRoom, PutAs, atom_text, lines_te
 
 use crate::put::{put_bytes, put_decimal, put_labelled};
 use search::layout::line_at;
-use sets::mask::{Mask, member};
+use sets::mask::Mask;
 
 // Puts an atom after a blank where it is in the set, else nothing.
 fn put_atom(text: &mut [u8], at: usize, set: Mask, a: u8) -> usize
     requires { HasRoom text.old at (atom_text (mask_means set) a) }
     ensures { PutAs text.old at (atom_text (mask_means set) a) text.new result }
 {
-    if member(set, a) {
-        return put_labelled(text, at, b" ", a as u64);
+    if set.member(a) {
+        return put_labelled(text, at, b" ", u64::from(a));
     }
     at
 }
@@ -26,10 +26,8 @@ fn put_atoms(text: &mut [u8], at: usize, set: Mask) -> usize
     ensures { PutAs text.old at (atoms_text (members (mask_means set))) text.new result }
 {
     let mut end = at;
-    let mut a = 0u8;
-    while a < 128 {
+    for a in 0..128 {
         end = put_atom(text, end, set, a);
-        a += 1;
     }
     end
 }
@@ -50,11 +48,9 @@ pub(crate) fn put_lines(text: &mut [u8], at: usize, line: &[u64], n: usize) -> u
     ensures { PutAs text.old at (lines_text line.now n) text.new result }
 {
     let mut end = at;
-    let mut i = 0;
-    while i < n {
+    for i in 0..n {
         let l = line_at(line, i);
         end = put_line(text, end, l.weight, l.chosen);
-        i += 1;
     }
     end
 }

@@ -9,12 +9,9 @@ pub(crate) fn put_bytes(text: &mut [u8], at: usize, piece: &[u8]) -> usize
     requires { HasRoom text.old at piece.now }
     ensures { PutAs text.old at piece.now text.new result }
 {
-    let mut i = 0;
-    while i < piece.len() {
-        text[at + i] = piece[i];
-        i += 1;
-    }
-    at + i
+    let end = at + piece.len();
+    text[at..end].copy_from_slice(piece);
+    end
 }
 
 // Puts the number in decimal: all digits but the last, which are those of a tenth of it, then the last. At most 20 calls deep.

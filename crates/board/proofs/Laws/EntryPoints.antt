@@ -14,14 +14,11 @@ use Rattle.board.specs.Board.{Board, declarations, is_state_of}
 use Rattle.board.specs.Holds.{rule_holds, holds, in_state}
 use Rattle.board.specs.Load.{load}
 use Rattle.board.specs.Table.{table_in, table_of, zero_table, board_of, is_table}
-use Rattle.board.specs.EntryPoints.{outcome_of, loaded_means, LoadsAs, yes_or_no}
+use Rattle.board.specs.EntryPoints.{table_answer, yes_or_no}
 use Rattle.board.proofs.Laws.Accepted.{accepted-bodies-below}
 use Rattle.board.proofs.Laws.Holds.{holds-step}
 use Rattle.board.proofs.Laws.Table.{is_table-board}
 use Rattle.board.specs.declared.Table.{Table}
-use Rattle.board.specs.declared.Loading.{Loading}
-use Rattle.board.specs.declared.Loaded.TheVariants.{Accepted}
-use Rattle.board.specs.declared.Loaded.TheVariants as loaded
 
 -- the table that loading a file hands back is that of the board it was accepted with
 pub table_in-accepted : (file : List ℕ) (b : Board) → load file ≡ accepted b → table_in (load file) ≡ table_of b
@@ -33,27 +30,17 @@ pub table_in-refused : (file : List ℕ) (number place : ℕ) → load file ≡ 
 unfolding table_in
 table_in-refused file number place e = rw e
 
--- what the answer beside the table says of a load: some board was accepted ..
-pub accepted-of : (answer : FileAnswer Board) → loaded_means loaded.Accepted ≡ outcome_of answer → (b : Board) × (answer ≡ accepted b)
-unfolding loaded_means outcome_of
-accepted-of (accepted b) e = (b, refl)
-accepted-of (refused_at number place) e = let z : ◌≡◌ {A = ℕ} 0 1 = cc in absurd (omega arith)
+-- what is answered of a load says what the load came to: a board was accepted, and the table is its ..
+pub accepted-of : (answer : FileAnswer Board) (t : Table) → accepted t ≡ table_answer answer → (b : Board) × (answer ≡ accepted b) × (t ≡ table_of b)
+unfolding table_answer
+accepted-of (accepted b) t e = (b, refl, cc)
+accepted-of (refused_at number place) t e = let z : ◌≡◌ {A = ℕ} 0 1 = cc in absurd (omega arith)
 
--- .. or the file refused
-pub refused_at-of : (answer : FileAnswer Board) (number place : ℕ) → loaded_means (loaded.Refused number place) ≡ outcome_of answer
-    → answer ≡ refused_at number place
-unfolding loaded_means outcome_of
+-- .. or the file was refused
+pub refused_at-of : (answer : FileAnswer Board) (number place : ℕ) → refused_at number place ≡ table_answer answer → answer ≡ refused_at number place
+unfolding table_answer
 refused_at-of (accepted b) number place e = let z : ◌≡◌ {A = ℕ} 0 1 = cc in absurd (omega arith)
 refused_at-of (refused_at n p) number place e = cc
-
--- a refusal of the right number and place
-pub refuses_loads : (answer : FileAnswer Board) (r : Loading) (number place : ℕ) → answer ≡ refused_at number place → LoadsAs (refused_at number place) r → LoadsAs answer r
-refuses_loads answer r number place e f = rw e f
-
--- the table of the board that was accepted
-pub accepts_loads : (answer : FileAnswer Board) (b : Board) (t : Table) → answer ≡ accepted b → t ≡ table_of b → LoadsAs answer (record { answer = Accepted; table = t })
-unfolding outcome_of table_in loaded_means
-accepts_loads answer b t e s = record { answers = sym (ap outcome_of e); table = s ∙ sym (ap table_in e) }
 
 -- ---- the yes-or-no, as its two sentences stand
 

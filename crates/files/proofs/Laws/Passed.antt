@@ -4,11 +4,15 @@ use Prim.Native.Nat.{ℕ, zero, suc}
 use native.Mathlib.Omega.{arith}
 use mathlib.Core.Bool.{Bool, true, false, cond}
 use mathlib.Core.List.{List}
+use lib.Dec.{ltb}
+use lib.ListN.{length}
+use Rattle.board.specs.Sizes.{most_w}
 use Rattle.board.specs.Answers.{FileAnswer, accepted, refused_at}
-use Rattle.board.specs.Board.{Board}
+use Rattle.board.specs.Board.{Board, W}
 use Rattle.board.specs.File.{Found, read_record}
-use Rattle.board.specs.Load.{misplaced_at, first_failing, field_checks, is_finish, load_from}
-use Rattle.files.specs.Private.Taking.{field_refusal, checked_record, passed_record}
+use Rattle.board.specs.Load.{misplaced_at, first_failing, field_checks, is_finish, at_the_end, load_from}
+use Rattle.board.specs.EntryPoints.{outcome_of}
+use Rattle.files.specs.Private.Taking.{field_refusal, checked_record, passed_record, ending}
 use Rattle.board.proofs.Laws.Load.Steps.{load-misplaced, load_unread, load_failing}
 
 -- what a record that passes has: it may stand where it stands, it is read there, and unless it is the end no field check fails
@@ -90,3 +94,25 @@ module _ (file : List ℕ) (at : ℕ) (b : Board) where
           → load_from (suc n) file at b ≡ refused_at number place
       placing true m e = load-misplaced n file at b m ∙ (cc)
       placing false m e = reading m (read_record file at) refl e
+
+-- ---- the end record
+
+-- what is answered of a load without its board says whether the file was refused ..
+pub outcome-refused : (answer : FileAnswer Board) (number place : ℕ) → refused_at number place ≡ outcome_of answer → answer ≡ refused_at number place
+unfolding outcome_of
+outcome-refused (accepted b) number place e = absurd (let z : ◌≡◌ {A = ℕ} 0 1 = cc in omega arith)
+outcome-refused (refused_at n p) number place e = cc
+
+-- .. and an end record's is the board so far, where it is no refusal
+module _ (file : List ℕ) (at next : ℕ) (b : Board) where
+  abbrev ended : Bool → Bool → FileAnswer Board
+  ended heavy longer = cond heavy (refused_at 8 at) (cond longer (refused_at 3 next) (accepted b))
+
+  pub ending-accepted : accepted tt ≡ outcome_of (ending file at next b) → ending file at next b ≡ accepted b
+  unfolding ending at_the_end outcome_of
+  ending-accepted = go (ltb most_w (W b)) (ltb next (length file))
+    where
+      go : (heavy longer : Bool) → accepted tt ≡ outcome_of (ended heavy longer) → ended heavy longer ≡ accepted b
+      go true longer e = absurd (let z : ◌≡◌ {A = ℕ} 0 1 = cc in omega arith)
+      go false true e = absurd (let z : ◌≡◌ {A = ℕ} 0 1 = cc in omega arith)
+      go false false e = refl

@@ -1,20 +1,20 @@
 -- Laws of the filled places of a rule's record as the code walks over them: the highest, and whether they come first and ascend. Assumes nothing.
-use mathlib.Core.Path.{◌≡◌, refl, sym, ap}
-use mathlib.Core.Bool.{Bool, true, false, not, ◌&&◌, ◌||◌, cond}
+use mathlib.Core.Path.{◌≡◌, refl, sym, ◌∙◌}
+use mathlib.Core.Logic.{◌⊎◌, inl, inr}
+use mathlib.Core.Bool.{Bool, true, ◌&&◌, ◌||◌}
 use mathlib.Core.List.{List, [], ◌∷◌}
-use Prim.Native.Nat.{ℕ, zero, suc, ◌/◌, ◌%◌, ◌≤◌, ◌<◌, max}
+use Prim.Native.Nat.{ℕ, zero, suc, ◌+◌, ◌≤◌, ◌<◌, max}
 use native.Mathlib.Omega.{arith}
-use native.Mathlib.Decide.{dec_le}
-use lib.Dec.{leb, ltb, eqb, ltb→lt, lt→ltb}
-use borrow.Author.Tests.{le-leb, lt-leb, le-ltb, lt-ltb, ne_eqb}
+use native.Mathlib.Decide.{dec_le, ℕ_discrete}
+use lib.Dec.{T, leb, ltb, eqb, eqb→eq, ltb→lt, lt→ltb}
+use lib.ListN.{length, get_or}
+use borrow.Author.Tests.{le-leb, lt-leb, le-ltb, lt-ltb, eq-eqb, ne_eqb}
 use Rattle.sets.specs.Lists.{any, keep, is_empty, ascending}
 use Rattle.sets.proofs.Laws.Lists.Ascending.{ascending_from, ascending-next, ascending_from-zero, is_empty-ascending}
-use Rattle.sets.proofs.Laws.Tests.{T_ext, and_swap}
+use Rattle.sets.proofs.Laws.Tests.{T_ext, T_of_true, true_of_T, and_swap, and_both, and_left, and_right, or_left, or_right, or_cases}
 use Rattle.board.specs.Sizes.{empty_place}
-use Rattle.board.specs.File.{low_bytes}
 use Rattle.board.specs.Load.{filled, filled_first}
 use Rattle.files.specs.Private.Filled.{top_of}
-use Rattle.board.proofs.Laws.Filled.{filled_empty, filled_full}
 
 -- ---- the highest filled place
 
@@ -32,61 +32,82 @@ any-top limit (p ∷ ps) = by (dec_le limit p) (any-top limit ps)
         (λ t. lt→ltb limit (max (suc p) (top_of ps)) (omega (arith, ltb→lt limit (top_of ps) t)))
         (λ t. lt→ltb limit (top_of ps) (omega (arith, ltb→lt limit (max (suc p) (top_of ps)) t))))
 
-module _ (past p : ℕ) (ps : List ℕ) where
-  -- an empty place changes nothing
-  pub top_empty : p ≡ empty_place → max past (top_of (filled (p ∷ ps))) ≡ max past (top_of (filled ps))
-  top_empty e = ap (λ (l : List ℕ). max past (top_of l)) (filled_empty ps e)
-
-  -- a filled one may be the highest
-  pub top-filled : (p ≡ empty_place → ⊥) → max past (top_of (filled (p ∷ ps))) ≡ max (max past (suc p)) (top_of (filled ps))
-  unfolding top_of
-  top-filled f = rw (filled_full ps f) (omega arith)
-
 -- ---- filled places come first, and ascend
 
--- filled places come first, the first of them is `least` or above, and each is above the one before
+-- each place is empty or above the one before it
 unfoldable pub climbs : ℕ → List ℕ → Bool
-climbs least [] = true
-climbs least (p ∷ ps) = cond (eqb p empty_place) (is_empty (filled ps)) (leb least p && climbs (suc p) ps)
+climbs before [] = true
+climbs before (p ∷ ps) = (eqb p empty_place || ltb before p) && climbs p ps
 
--- from any number on
-climbs_from : (least : ℕ) (ps : List ℕ) → climbs least ps ≡ (filled_first ps && ascending_from least (filled ps))
-unfolding climbs filled_first filled keep ascending_from
-climbs_from least [] = refl
-climbs_from least (p ∷ ps) = step (eqb p empty_place) (climbs_from (suc p) ps)
-  where
-    step : (t : Bool) → climbs (suc p) ps ≡ (filled_first ps && ascending_from (suc p) (filled ps))
-        → cond t (is_empty (filled ps)) (leb least p && climbs (suc p) ps)
-        ≡ (cond t (is_empty (filled ps)) (filled_first ps) && ascending_from least (cond (not t) (p ∷ filled ps) (filled ps)))
-    step true rest = is_empty-ascending least (filled ps)
-    step false rest = rw (rest, ascending-next p (filled ps)) (and_swap (leb least p) (filled_first ps) _)
+-- no place is above an empty one
+abbrev pub Bytes : List ℕ → Type 0
+Bytes ps = (i : ℕ) → get_or ps i 0 ≤ empty_place
 
--- from 0 on: filled places come first, and ascend
-pub climbs_means : (ps : List ℕ) → (filled_first ps && ascending (filled ps)) ≡ climbs 0 ps
-climbs_means ps = rw (climbs_from 0 ps, ascending_from-zero)
-
-module _ (least p : ℕ) (ps : List ℕ) where
-  -- a filled place that is too low
-  pub climbs-low : (p ≡ empty_place → ⊥) → p < least → climbs least (p ∷ ps) ≡ false
-  unfolding climbs
-  climbs-low f h = rw (ne_eqb p empty_place f, lt-leb least p h)
-
-  -- a filled place that is not
-  pub climbs_on : (p ≡ empty_place → ⊥) → least ≤ p → climbs least (p ∷ ps) ≡ climbs (suc p) ps
-  unfolding climbs
-  climbs_on f h = rw (ne_eqb p empty_place f, le-leb least p h)
-
--- after an empty place no byte may be filled
-climbs_past : (b : ℕ) (bs : List ℕ) → b ≤ empty_place → climbs (suc empty_place) (b ∷ bs) ≡ is_empty (filled (b ∷ bs))
+-- so none is filled after an empty one
+climbs_past : (ps : List ℕ) → Bytes ps → climbs empty_place ps ≡ is_empty (filled ps)
 unfolding climbs is_empty filled keep
-climbs_past b bs h = rw (lt-leb (suc empty_place) b (omega arith)) (step (eqb b empty_place))
+climbs_past [] h = refl
+climbs_past (p ∷ ps) h = by (ℕ_discrete p empty_place) (climbs_past ps (λ i. h (suc i)))
   where
-    step : (t : Bool) → cond t (is_empty (filled bs)) false ≡ is_empty (cond (not t) (b ∷ filled bs) (filled bs))
-    step true = refl
-    step false = refl
+    by : Dec (p ≡ empty_place) → climbs empty_place ps ≡ is_empty (filled ps) → climbs empty_place (p ∷ ps) ≡ is_empty (filled (p ∷ ps))
+    by (yes e) rest = rw e rest
+    by (no f) rest = rw (ne_eqb p empty_place f, le-ltb empty_place p (h 0))
 
--- an empty place
-pub climbs_empty : {p : ℕ} (least k n : ℕ) → p ≡ empty_place → climbs least (p ∷ low_bytes k n) ≡ climbs (suc p) (low_bytes k n)
-unfolding climbs low_bytes is_empty filled keep
-climbs_empty least zero n e = rw e
-climbs_empty least (suc k) n e = rw e (sym (climbs_past (n % 256) (low_bytes k (n / 256)) (omega arith)))
+-- after any place
+climbs_from : (before : ℕ) (ps : List ℕ) → Bytes ps → climbs before ps ≡ (filled_first ps && ascending_from (suc before) (filled ps))
+unfolding climbs filled_first filled keep ascending_from
+climbs_from before [] h = refl
+climbs_from before (p ∷ ps) h = by (ℕ_discrete p empty_place) (climbs_from p ps (λ i. h (suc i)))
+  where
+    by : Dec (p ≡ empty_place) → climbs p ps ≡ (filled_first ps && ascending_from (suc p) (filled ps))
+        → climbs before (p ∷ ps) ≡ (filled_first (p ∷ ps) && ascending_from (suc before) (filled (p ∷ ps)))
+    by (yes e) rest = rw e (climbs_past ps (λ i. h (suc i)) ∙ is_empty-ascending (suc before) (filled ps))
+    by (no f) rest =
+        rw (ne_eqb p empty_place f, rest, ascending-next p (filled ps))
+        (and_swap (ltb before p) (filled_first ps) (ascending_from (suc p) (filled ps)))
+
+-- from the first place on
+climbs_means : (p : ℕ) (ps : List ℕ) → Bytes (p ∷ ps) → climbs p ps ≡ (filled_first (p ∷ ps) && ascending (filled (p ∷ ps)))
+unfolding filled_first filled keep
+climbs_means p ps h = by (ℕ_discrete p empty_place)
+  where
+    by : Dec (p ≡ empty_place) → climbs p ps ≡ (filled_first (p ∷ ps) && ascending (filled (p ∷ ps)))
+    by (yes e) = rw e (climbs_past ps (λ i. h (suc i)) ∙ is_empty-ascending 0 (filled ps) ∙ rw ascending_from-zero)
+    by (no f) = rw (ne_eqb p empty_place f, ascending-next p (filled ps)) (climbs_from p ps (λ i. h (suc i)))
+
+-- the same by indices
+abbrev pub Climbs : List ℕ → Type 0
+Climbs ps = (k : ℕ) → k + 1 < length ps → (get_or ps (k + 1) 0 ≡ empty_place) ⊎ (get_or ps k 0 < get_or ps (k + 1) 0)
+
+-- one index further on
+further : (k : ℕ) → suc k + 1 ≡ suc (k + 1)
+further k = omega arith
+
+climbs_everywhere : (p : ℕ) (ps : List ℕ) → Climbs (p ∷ ps) → T (climbs p ps)
+unfolding climbs
+climbs_everywhere p [] h = tt
+climbs_everywhere p (q ∷ ps) h =
+    and_both (eqb q empty_place || ltb p q) (climbs q ps) (first (h 0 (omega arith)))
+    (climbs_everywhere q ps (λ k l. rw (further k) at (h (suc k) (omega arith))))
+  where
+    first : (q ≡ empty_place) ⊎ (p < q) → T (eqb q empty_place || ltb p q)
+    first (inl e) = or_left (eqb q empty_place) (ltb p q) (T_of_true (eq-eqb q empty_place e))
+    first (inr l) = or_right (eqb q empty_place) (ltb p q) (lt→ltb p q l)
+
+climbs_at : (p : ℕ) (ps : List ℕ) → T (climbs p ps) → Climbs (p ∷ ps)
+unfolding climbs
+climbs_at p [] h k l = absurd (omega arith)
+climbs_at p (q ∷ ps) h zero l = first (or_cases (eqb q empty_place) (ltb p q) (and_left (eqb q empty_place || ltb p q) (climbs q ps) h))
+  where
+    first : T (eqb q empty_place) ⊎ T (ltb p q) → (q ≡ empty_place) ⊎ (p < q)
+    first (inl e) = inl (eqb→eq q empty_place e)
+    first (inr t) = inr (ltb→lt p q t)
+climbs_at p (q ∷ ps) h (suc k) l =
+    rw (further k) (climbs_at q ps (and_right (eqb q empty_place || ltb p q) (climbs q ps) h) k (omega arith))
+
+-- what is true exactly if each place but the first is empty or above the one before it, says that filled places come first and ascend
+pub climbs_test : (ps : List ℕ) (t : Bool) → Bytes ps → (t ≡ true → Climbs ps) → (Climbs ps → t ≡ true) → t ≡ (filled_first ps && ascending (filled ps))
+unfolding filled_first filled keep ascending
+climbs_test [] t h f g = g (λ k l. absurd (omega arith))
+climbs_test (p ∷ ps) t h f g =
+    T_ext t (climbs p ps) (λ x. climbs_everywhere p ps (f (true_of_T t x))) (λ x. T_of_true (g (climbs_at p ps x))) ∙ climbs_means p ps h

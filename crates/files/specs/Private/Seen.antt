@@ -1,12 +1,11 @@
 -- What the checks of a record know of the hypotheses before it, for the contracts of private functions. Assumes nothing.
-use Rattle.std.specs.Prelude.{◌≡◌, ℕ, pred, true, List, [], length}
+use Rattle.std.specs.Prelude.{◌≡◌, ℕ, pred, true, false, List, [], length, Option, Some, None}
 use Rattle.sets.specs.Sets.{set_of}
 use Rattle.sets.specs.Masks.{mask_means}
 use Rattle.sets.specs.declared.mask.Mask.{Mask}
 use Rattle.board.specs.Board.{Hypothesis, declarations_in, declaration}
 use Rattle.board.specs.Holds.{atoms_of}
 use Rattle.files.specs.declared.checks.Seen.{Seen}
-use Rattle.files.specs.declared.accepted.Passed.{Passed}
 use Rattle.board.specs.Private.Passes.{hypotheses_pass}
 
 -- the set of the hypotheses' atoms
@@ -19,7 +18,7 @@ pub record SeenOf (hs : List Hypothesis) (s : Seen) : Type 0 where
   pub last : s.last ≡ length (declaration hs (pred (declarations_in hs)))
   pub atoms : AtomsOf hs s.atoms
 
--- whether the hypotheses pass one after another, and what is known of them if they do
-pub record Passing (atoms : ℕ) (hs : List Hypothesis) (r : Passed) : Type 0 where
-  pub all : r.all ≡ hypotheses_pass atoms [] hs
-  pub seen : r.all ≡ true → SeenOf hs r.seen
+-- what is known of the hypotheses if they pass one after another
+abbrev pub Passing : ℕ → List Hypothesis → Option Seen → Type 0
+Passing atoms hs (Some s) = (hypotheses_pass atoms [] hs ≡ true) × SeenOf hs s
+Passing atoms hs None = hypotheses_pass atoms [] hs ≡ false

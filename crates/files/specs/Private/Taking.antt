@@ -1,22 +1,18 @@
 -- The loader record by record, for the contracts of its parts. Assumes nothing.
-use Rattle.std.specs.Prelude.{◌≡◌, ℕ, zero, suc, ◌≤◌, true, false, cond, List, ltb}
+use Rattle.std.specs.Prelude.{◌≡◌, ℕ, zero, suc, ◌≤◌, true, false, cond, List, ltb, Result, Ok, Err}
 use Rattle.board.specs.Sizes.{most_atoms, most_w}
-use Rattle.board.specs.Answers.{FileAnswer, accepted, refused_at}
+use Rattle.board.specs.Answers.{FileAnswer, accepted, refused_at, refusal_number}
 use Rattle.board.specs.Board.{Board, W}
 use Rattle.board.specs.File.{Record, Found, read_record}
 use Rattle.board.specs.Load.{misplaced_at, first_failing, field_checks, taking, is_finish, at_the_end}
 use Rattle.files.specs.Private.Seen.{SeenOf}
+use Rattle.board.specs.declared.Refusal.{Refusal}
 use Rattle.files.specs.declared.checks.Seen.{Seen}
 
--- the number of the refusal that reading answered; 0 where a record was read
-unfoldable pub number_in : FileAnswer Found → ℕ
-number_in (accepted f) = 0
-number_in (refused_at number place) = number
-
--- the place that reading answered: the next record's, or the refusal's
-unfoldable pub place_in : FileAnswer Found → ℕ
-place_in (accepted f) = f.next
-place_in (refused_at number place) = place
+-- the number of the check that failed; 0 where none did
+abbrev pub failed_number : Result Unit Refusal → ℕ
+failed_number (Ok x) = 0
+failed_number (Err r) = refusal_number r
 
 -- what an end record at `at` leads to: "Refusal 8 is checked at the end record", then nothing follows
 unfoldable pub ending : List ℕ → ℕ → ℕ → Board → FileAnswer Board

@@ -14,4 +14,4 @@ returns-in-More c = search rules
 
 pub returns-in-Refused : goal.returns-in-Refused
 unfolding ending_number ending_means
-returns-in-Refused c = search rules
+returns-in-Refused c = rw c.in-Refused.is c.number.ensures

@@ -1,14 +1,17 @@
 -- Laws of what holds by the rules that are lent, rule by rule and body place by body place, and of the answers found so far. Assumes nothing.
+use Rattle.std.specs.Prelude.{Option, Some, None}
+use Rattle.std.specs.List.{list_any}
+use Rattle.std.specs.Option.{ForSome}
 use Prim.Native.Nat.{ℕ, ◌+◌, ◌*◌, ◌≤◌, ◌<◌}
 use native.Mathlib.Omega.{arith}
 use native.Mathlib.Decide.{dec_lt, ℕ_discrete}
-use mathlib.Core.Path.{◌≡◌, sym, ap, ◌∙◌}
+use mathlib.Core.Path.{◌≡◌, refl, sym, ap, ◌∙◌}
 use mathlib.Core.Bool.{Bool, true, false, ◌||◌, or-true}
-use mathlib.Core.List.{List, Memᴰ}
+use mathlib.Core.List.{List, [], ◌∷◌, Memᴰ}
 use lib.Dec.{T_not, not_T, eqb, eqb→eq, eqb_refl, T}
 use lib.ListN.{length, get_or, drop, set, replicate, length-take, length-drop, length-replicate, get_or-replicate, get_or-eq_default}
 use lib.Seq.{get_or-take, get_or-drop, get_or-set_same, get_or-set_other, set_out}
-use Rattle.sets.specs.Lists.{any, below}
+use Rattle.sets.specs.Lists.{any, among, below}
 use Rattle.sets.proofs.Laws.Lists.{all_at, all_of, any-map, keep-of, keep_at}
 use Rattle.sets.proofs.Laws.Lists.Indices.{at_index, index_of, any_below, none_below}
 use Rattle.sets.proofs.Laws.Tests.{T_of_true, true_of_T, false_of_T, and_both, and_left, and_right}
@@ -18,7 +21,7 @@ use Rattle.board.specs.Table.{places_in, rule_in, rules_in, board_of, is_table}
 use Rattle.board.proofs.Laws.Lent.{rules_in-of}
 use Rattle.board.specs.Holds.{rule_holds, in_state}
 use Rattle.board.proofs.Laws.Holds.{rule_gives, holds-step}
-use Rattle.holding.specs.Private.Remembered.{rules_alone, lent_holds, SoundRules, RightMark, Remembered}
+use Rattle.holding.specs.Private.Remembered.{rules_alone, lent_holds, SoundRules, Remembered}
 use Rattle.board.proofs.Laws.Accepted.{accepted-bodies-below}
 use Rattle.board.proofs.Laws.Table.{is_table-board}
 use Rattle.board.proofs.Laws.Table.Fields.{is_table_stands}
@@ -27,32 +30,23 @@ use Rattle.board.specs.declared.Table.{Table}
 
 -- ---- the answers found so far
 
--- a store of a right mark
-pub remembered_set : (f : ℕ → Bool) (known : List ℕ) → Remembered f known → (a mark : ℕ) → RightMark (f a) mark → Remembered f (set known a mark)
-remembered_set f known h a mark r = record { right = λ x. go x (ℕ_discrete x a) (dec_lt a (length known)) }
+-- a store of what is rightly found
+pub remembered_set : (f : ℕ → Bool) (known : List (Option Bool)) → Remembered f known → (a : ℕ) (found : Bool) → found ≡ f a
+    → Remembered f (set known a (Some found))
+remembered_set f known h a found r = record { right = λ x. go x (ℕ_discrete x a) (dec_lt a (length known)) }
   where
-    go : (x : ℕ) → Dec (x ≡ a) → Dec (a < length known) → RightMark (f x) (get_or (set known a mark) x 0)
-    go x (yes e) (yes l) = rw (e, get_or-set_same known a mark 0 l) r
-    go x (yes e) (no l) = rw (set_out known a mark (omega arith)) (h.right x)
-    go x (no n) d = rw (get_or-set_other known a x mark 0 n) (h.right x)
+    go : (x : ℕ) → Dec (x ≡ a) → Dec (a < length known) → ForSome (get_or (set known a (Some found)) x None) (λ y. y ≡ f x)
+    go x (yes e) (yes l) = rw (e, get_or-set_same known a (Some found) None l) (λ y q. let same : found ≡ y = cc in sym same ∙ r)
+    go x (yes e) (no l) = rw (set_out known a (Some found) (omega arith)) (h.right x)
+    go x (no n) d = rw (get_or-set_other known a x (Some found) None n) (h.right x)
 
--- nothing is marked yet
-pub remembered_none : (f : ℕ → Bool) (n : ℕ) → Remembered f (replicate n 0)
-remembered_none f n = record { right = λ x. rw (zeros x (dec_lt x n)) (record { most = omega arith; one = λ e. absurd (omega arith); two = λ e. absurd (omega arith) }) }
+-- nothing is found yet
+pub remembered_none : (f : ℕ → Bool) (n : ℕ) → Remembered f (replicate n None)
+remembered_none f n = record { right = λ x. rw (nothing x (dec_lt x n)) (λ y q. let none : ⊥ = cc in absurd none) }
   where
-    zeros : (x : ℕ) → Dec (x < n) → ◌≡◌ {A = ℕ} (get_or (replicate n 0) x 0) 0
-    zeros x (yes l) = get_or-replicate n x 0 0 l
-    zeros x (no l) = get_or-eq_default (replicate n 0) 0 (rw length-replicate (omega arith))
-
--- what is found of an atom is answered, and marked
-module _ (f : ℕ → Bool) (known : List ℕ) (a : ℕ) (h : Remembered f known) where
-  -- it holds: the mark is 1
-  pub told_yes : true ≡ f a → (true ≡ f a) × Remembered f (set known a 1)
-  told_yes e = (e, remembered_set f known h a 1 (record { most = omega arith; one = λ _. sym e; two = λ k. absurd (omega arith) }))
-
-  -- it does not hold: the mark is 2
-  pub told_no : false ≡ f a → (false ≡ f a) × Remembered f (set known a 2)
-  told_no e = (e, remembered_set f known h a 2 (record { most = omega arith; one = λ k. absurd (omega arith); two = λ _. sym e }))
+    nothing : (x : ℕ) → Dec (x < n) → ◌≡◌ {A = Option Bool} (get_or (replicate n None) x None) None
+    nothing x (yes l) = get_or-replicate n x None None l
+    nothing x (no l) = get_or-eq_default (replicate n None) None (rw length-replicate (omega arith))
 
 -- ---- a rule's body, by its places
 
@@ -64,7 +58,8 @@ module _ (head body : List ℕ) (i : ℕ) where
   filled-here room k l f =
       let size : length (places_in body i) ≡ most_body = simp (length-take, length-drop) (omega arith) in
       let here : get_or (places_in body i) k 0 ≡ get_or body (most_body * i + k) 0 = rw (get_or-take, get_or-drop) in
-      keep-of _ (rw here at (at_index (places_in body i) k 0 (omega arith))) (not_T (eqb (get_or body (most_body * i + k) 0) empty_place) (λ t. f (eqb→eq _ empty_place t)))
+      keep-of _ (rw here at (at_index (places_in body i) k 0 (omega arith)))
+      (not_T (eqb (get_or body (most_body * i + k) 0) empty_place) (λ t. f (eqb→eq _ empty_place t)))
 
   -- a body atom stands at a filled place
   pub filled_at : {x : ℕ} → Memᴰ x (rule_in head body i).body → (k : ℕ) × (k < most_body) × (get_or body (most_body * i + k) 0 ≡ x) × (x ≡ empty_place → ⊥)
@@ -74,7 +69,8 @@ module _ (head body : List ℕ) (i : ℕ) where
       let (mem, full) = keep_at _ places m in
       let (k, l, e) = index_of 0 mem in
       let short : k < most_body = omega (arith, length-take most_body (drop (most_body * i) body)) in
-      (k, short, sym (get_or-take most_body (drop (most_body * i) body) k 0 short ∙ get_or-drop (most_body * i) body k 0) ∙ e, λ q. T_not (eqb x empty_place) full (rw q (eqb_refl empty_place)))
+      let here = get_or-take most_body (drop (most_body * i) body) k 0 short ∙ get_or-drop (most_body * i) body k 0 in
+      (k, short, sym here ∙ e, λ q. T_not (eqb x empty_place) full (rw q (eqb_refl empty_place)))
 
 module _ (holding : ℕ → Bool) (head body : List ℕ) (i : ℕ) where
   -- a rule holds where every filled place's atom does
@@ -91,6 +87,12 @@ module _ (holding : ℕ → Bool) (head body : List ℕ) (i : ℕ) where
 
 -- ---- what holds
 
+-- whether a slice contains an atom is whether the atom is chosen in that state
+pub contains-in_state : (state : List ℕ) (a : ℕ) → list_any (λ y. eqb y a) state ≡ in_state state a
+unfolding in_state among any
+contains-in_state [] a = refl
+contains-in_state (x ∷ xs) a = ap (◌||◌ (eqb x a)) (contains-in_state xs a)
+
 -- rule i is one of a's rules and holds
 abbrev pub lent_gives : List ℕ → List ℕ → ℕ → List ℕ → ℕ → ℕ → Bool
 lent_gives head body n state a i = rule_gives (lent_holds head body n state) a (rule_in head body i)
@@ -106,14 +108,16 @@ module _ (head body : List ℕ) (n : ℕ) (state : List ℕ) (sound : SoundRules
   lent-chosen e = rw (by_index, ← e)
 
   -- an atom with a rule that holds, holds
-  pub lent-rule : (i : ℕ) → i < n → get_or head i 0 ≡ a → true ≡ rule_holds (lent_holds head body n state) (rule_in head body i) → true ≡ lent_holds head body n state a
+  pub lent-rule : (i : ℕ) → i < n → get_or head i 0 ≡ a → true ≡ rule_holds (lent_holds head body n state) (rule_in head body i)
+      → true ≡ lent_holds head body n state a
   lent-rule i l e f =
       let gives = any_below (lent_gives head body n state a) n i l (and_both (eqb (get_or head i 0) a) _ (rw e (eqb_refl a)) (T_of_true (sym f))) in
       rw (by_index, gives, or-true)
 
   -- an atom that is not chosen and has no rule that holds, does not hold
   pub lent_none : false ≡ in_state state a
-      → ((i : ℕ) → i < n → get_or head i 0 ≡ a → false ≡ rule_holds (lent_holds head body n state) (rule_in head body i)) → false ≡ lent_holds head body n state a
+      → ((i : ℕ) → i < n → get_or head i 0 ≡ a → false ≡ rule_holds (lent_holds head body n state) (rule_in head body i))
+      → false ≡ lent_holds head body n state a
   lent_none e h =
       let none = none_below (lent_gives head body n state a) n (λ i l t. let own : Bool = eqb (get_or head i 0) a in
       rw (← h i l (eqb→eq (get_or head i 0) a (and_left own _ t))) at (and_right own _ t)) in

@@ -1,32 +1,12 @@
--- `is_choice` meets its contract: no hypothesis passed is of this declaration and has this atom. Assumes nothing.
-use mathlib.Core.Path.{◌∙◌}
-use native.Mathlib.Omega.{arith}
-use borrow.Author.Rules.{rules}
-use borrow.Author.Count.{below_none, below_more}
-use mathlib.Core.List.{[]}
-use Rattle.holding.proofs.Laws.Choices.{choice_here, choice_nowhere}
+-- `is_choice` meets its contract: the chain asks each hypothesis for the declaration and the atom. Assumes nothing.
+use Rattle.std.proofs.Common.{rules, tests, arith, [], ◌∙◌}
+use Rattle.std.proofs.lemmas.Iterator.{YieldsList-from_range}
+use Rattle.std.proofs.lemmas.Iterator.Search.{any_from_yields_List}
+use Rattle.holding.proofs.Laws.Choices.{is_at, by_range}
 use Rattle.holding.proofs.is_choice.Goals as goal
-use Rattle.holding.proofs.is_choice.Goals.{then-wide-d+else-atom-k, else-wide-d}
-
-pub loop-k-init : goal.loop-k-init
-loop-k-init c = (omega arith, below_none _)
-
-pub returns-then-atom-k : goal.returns-then-atom-k
-returns-then-atom-k c =
-    let a = c.args in
-    choice_here a.numbers.now a.atom.now [] a.hypotheses a.d a.a c.loop-k.k
-    (omega arith) (cc) c.if-atom-k.true
-
-pub loop-k-preserved : goal.loop-k-preserved
-loop-k-preserved c = (
-  search rules,
-  below_more _ _ c.loop-k.invariant.1 (elim c.if-wide-d.branch [
-    | then-wide-d+else-atom-k w ↦ λ e f. w.if-atom-k.false f
-    | else-wide-d w ↦ λ e f. w.if-wide-d.false (c.wide.ensures.value ∙ e)
-  ]),
-)
 
 pub returns : goal.returns
 returns c =
-    let a = c.args in
-    choice_nowhere a.numbers.now a.atom.now [] a.hypotheses a.d a.a (λ k l. c.loop-k.invariant.1 k (omega arith))
+    any_from_yields_List (is_at c.args.t.now.declaration c.args.t.now.atom c.args.d c.args.a) _ _ _ c.any.ensures.ran
+    (YieldsList-from_range 0 c.args.t.now.hypotheses c.args.t.now.hypotheses (cc) (omega arith)) (λ k b f h. search (rules, tests))
+    ∙ by_range c.args.t.now.declaration c.args.t.now.atom [] c.args.t.now.hypotheses c.args.d c.args.a

@@ -1,32 +1,34 @@
--- `is_state` meets its contract: every atom passed is of its declaration. Assumes nothing.
-use mathlib.Core.Path.{◌≡◌, sym, ◌∙◌}
-use mathlib.Core.List.{[]}
-use native.Mathlib.Omega.{arith}
-use borrow.Author.Count.{below_none}
-use Rattle.board.specs.Board.{declarations_in}
-use Rattle.board.proofs.Laws.Board.States.{is_state, no_state_length, no_state_at}
-use Rattle.board.proofs.Laws.Lent.{declarations_in-lent}
+-- `is_state` meets its contract: there is one atom per declaration, and the chain asks each atom for its own. Assumes nothing.
+use Rattle.std.proofs.Common.{◌≡◌, refl, sym, ◌∙◌, ℕ, ◌<◌, min, Bool, true, false, List, [], length, get_or, rules, arith}
+use borrow.Author.Tests.{ne_eqb}
+use Rattle.board.specs.Sizes.{most_atoms}
+use Rattle.board.specs.Board.{Board, declarations_in, declaration, declarations, is_atom_of, is_state_of}
 use Rattle.board.specs.Table.{hypotheses_in}
+use Rattle.board.proofs.Laws.Board.States.{is_state, no_state_length, no_state_at}
 use Rattle.holding.specs.Private.Remembered.{hypotheses_alone}
 use Rattle.holding.proofs.is_state.Goals as goal
-use Rattle.holding.proofs.is_state.Goals.{Start}
 
--- as many declarations as the hypotheses with these atoms have
-counted : (s : Start) → let a = s.args in a.count ≡ declarations_in (hypotheses_in a.numbers.now a.atom.now [] a.hypotheses)
-counted s = let a = s.args in s.requires.count_value ∙ declarations_in-lent a.numbers.now [] a.atom.now [] [] a.hypotheses
+-- what tells whether each atom is of its declaration, where there are as many as declarations, is `is_state_of`
+each_is : (b : Board) (s : List ℕ) (r : Bool) → length s ≡ declarations_in b.hypotheses
+    → (r ≡ true → (k : ℕ) → k < length s → true ≡ is_atom_of (declaration b.hypotheses k) (get_or s k 0))
+    → (r ≡ false → (k : ℕ) × (k < length s) × (false ≡ is_atom_of (declaration b.hypotheses k) (get_or s k 0)))
+    → r ≡ is_state_of (declarations b) s
+each_is b s true e each other = is_state b s e (each refl)
+each_is b s false e each other = let (k, l, f) = other refl in no_state_at b s k l f
 
-pub returns-then-state-count : goal.returns-then-state-count
-returns-then-state-count c = let a = c.args in
-    no_state_length (hypotheses_alone (hypotheses_in a.numbers.now a.atom.now [] a.hypotheses)) a.state.now (λ e. c.if-state-count.true (e ∙ sym (counted (goal.at.returns-then-state-count c).Start)))
+pub returns-then-state-declarations : goal.returns-then-state-declarations
+returns-then-state-declarations c =
+    let t = c.args.t.now in
+    let hypotheses = hypotheses_in t.declaration t.atom [] t.hypotheses in
+    let few : min t.hypotheses most_atoms ≡ t.hypotheses = omega arith in
+    let counted : length c.args.state.now ≡ declarations_in hypotheses = c.if-state-declarations.true ∙ rw few at (c.declarations.ensures.by_index t.atom []) in
+    each_is (hypotheses_alone hypotheses) c.args.state.now c.all.result counted (λ e k l. search rules) (λ e. search rules)
 
-pub loop-i-init : goal.loop-i-init
-loop-i-init c = (omega arith, below_none _)
-
-pub returns-then-not-is_choice : goal.returns-then-not-is_choice
-returns-then-not-is_choice c = let a = c.args in
-    no_state_at (hypotheses_alone (hypotheses_in a.numbers.now a.atom.now [] a.hypotheses)) a.state.now
-    c.loop-i.i (omega arith) (rw c.if-not-is_choice.true at c.is_choice.ensures)
-
-pub returns : goal.returns
-returns c = let a = c.args in
-    is_state (hypotheses_alone (hypotheses_in a.numbers.now a.atom.now [] a.hypotheses)) a.state.now (omega (arith, counted (goal.at.returns c).Start)) (λ i l. c.loop-i.invariant.1 i (omega arith))
+pub returns-else-state-declarations : goal.returns-else-state-declarations
+returns-else-state-declarations c =
+    let t = c.args.t.now in
+    let hypotheses = hypotheses_in t.declaration t.atom [] t.hypotheses in
+    let few : min t.hypotheses most_atoms ≡ t.hypotheses = omega arith in
+    let counted : c.declarations.result ≡ declarations_in hypotheses = rw few at (c.declarations.ensures.by_index t.atom []) in
+    ne_eqb _ _ c.if-state-declarations.false
+    ∙ no_state_length (hypotheses_alone hypotheses) c.args.state.now (λ e. c.if-state-declarations.false (e ∙ sym counted))

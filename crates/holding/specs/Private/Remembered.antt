@@ -1,7 +1,8 @@
 -- What holds by the rules alone that the code lends, and the answers that it has found so far: for the contracts of private functions.
 -- `holds` asks a board for its rules alone, and `declarations` for its hypotheses alone, so each is stated of a board that has no more.
 -- Assumes nothing.
-use Rattle.std.specs.Prelude.{◌≡◌, Bool, true, false, ℕ, ◌*◌, ◌≤◌, ◌<◌, length, get_or}
+use Rattle.std.specs.Prelude.{◌≡◌, Bool, ℕ, ◌*◌, ◌≤◌, ◌<◌, length, get_or, Option, None}
+use Rattle.std.specs.Option.{ForSome}
 use mathlib.Core.List.{List, [], Memᴰ}
 use Rattle.board.specs.Sizes.{most_atoms, most_rules, most_body}
 use Rattle.board.specs.Board.{Board, Rule, Hypothesis}
@@ -27,12 +28,6 @@ pub record SoundRules (head body : List ℕ) (n : ℕ) : Type 0 where
   pub heads : (i : ℕ) → i < n → get_or head i 0 < most_atoms
   pub low : (r : Rule) → Memᴰ r (rules_in head body n) → (a : ℕ) → Memᴰ a r.body → a < r.head
 
--- a mark says of an atom that it holds (1), that it does not (2), or nothing yet (0)
-pub record RightMark (holding : Bool) (mark : ℕ) : Type 0 where
-  pub most : mark ≤ 2
-  pub one : mark ≡ 1 → holding ≡ true
-  pub two : mark ≡ 2 → holding ≡ false
-
--- every atom's mark is right
-pub record Remembered (holding : ℕ → Bool) (known : List ℕ) : Type 0 where
-  pub right : (x : ℕ) → RightMark (holding x) (get_or known x 0)
+-- what was found of an atom that was asked is whether it holds
+pub record Remembered (holding : ℕ → Bool) (known : List (Option Bool)) : Type 0 where
+  pub right : (x : ℕ) → ForSome (get_or known x None) (λ found. found ≡ holding x)

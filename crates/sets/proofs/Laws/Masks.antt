@@ -5,14 +5,19 @@ use Prim.Native.Nat.{ℕ, ◌+◌, ◌-◌, ◌*◌, ◌^◌, ◌≤◌, ◌<◌
 use native.Mathlib.Nat.{one-mul, mod-eq_of_lt}
 use native.Mathlib.Omega.{arith}
 use mathlib.Core.Path.{◌≡◌, refl, sym, ap, ◌∙◌}
-use mathlib.Core.Bool.{Bool, true, false, not, ◌&&◌, cond}
+use mathlib.Core.Bool.{Bool, true, false, not, ◌&&◌, and_comm, cond}
 use lib.Arith.{digits_lt}
 use lib.Bits.{bit_or, bit_and, bit_xor, or_block, or_lt, or_zero_r, and_block, and_mask, and_le_l, and_le_r, xor_add_and, xor_self}
 use lib.Dec.{T, eqb, eqb→eq, eqb_refl, ltb, lt→ltb}
 use lib.Pow.{pow-lt, pow-add, pow_pos}
-use borrow.Author.Tests.{lt-ltb, le-ltb, eqb-true, eqb-false}
+use borrow.Author.Tests.{lt-ltb, le-ltb, eqb-true, eqb-false, ne_eqb}
+use Rattle.std.proofs.Common.{Ordering, Less, Equal, Greater}
+use Rattle.std.specs.Ordering.{is_lt, nat_cmp, is_some_and, partial_ordering_then, partial_lt}
+use Rattle.std.specs.Prelude.{Some}
 use Rattle.sets.specs.Masks.{mask_means, with_atom}
 use Rattle.sets.specs.Sets.{most_atoms, member, union, with, without, subset, meets, all_below, words}
+use Rattle.sets.specs.contracts.mask.MaskPartialEq.TheImpl as mask_equal
+use Rattle.sets.specs.contracts.mask.MaskPartialOrd.TheImpl as mask_order
 use Rattle.sets.specs.declared.mask.Mask.{Mask}
 use Rattle.sets.proofs.Laws.Sets.Bounds.{without-member}
 use Rattle.sets.proofs.Laws.Sets.Digits.{member-and, member-low, member-high, member_full, member_power, member-without, set_ext, all_below_at}
@@ -121,6 +126,53 @@ module _ (low high low' high' : ℕ) (l : low < 2 ^ 64) (l' : low' < 2 ^ 64) whe
     where
       above : words low high < words low' high' → high < high'
       above h = omega arith
+
+-- ---- what the code's `==` and `<` on two masks answer
+
+-- both words are equal exactly if the sets are
+words_eq : (low high low' high' : ℕ) → low < 2 ^ 64 → low' < 2 ^ 64
+    → (eqb high high' && eqb low low') ≡ eqb (words low high) (words low' high')
+words_eq low high low' high' l l' = go (eqb high high') refl
+  where
+    go : (same : Bool) → eqb high high' ≡ same → (same && eqb low low') ≡ eqb (words low high) (words low' high')
+    go true e =
+        let same : high ≡ high' = eqb-true high high' e in
+        eqb_ext low low' (words low high) (words low' high') (λ h. omega arith) (λ h. omega arith)
+    go false e =
+        let other : high ≡ high' → ⊥ = eqb-false high high' e in
+        sym (ne_eqb (words low high) (words low' high') (λ h. other (omega arith)))
+
+-- where a comparison of two numbers does not answer equal, what would be compared next does not matter ..
+less_differ : (less : Bool) (next : Ordering) → is_some_and is_lt (partial_ordering_then (Some (cond less Less Greater)) (Some next)) ≡ less
+less_differ true next = refl
+less_differ false next = refl
+
+-- .. and a comparison of two numbers answers less exactly if the test of the order does
+less_last : (less equal : Bool) → is_some_and is_lt (Some (cond less Less (cond equal Equal Greater))) ≡ less
+less_last true equal = refl
+less_last false true = refl
+less_last false false = refl
+
+module _ (s t : Mask) (low : s.low < 2 ^ 64) (low' : t.low < 2 ^ 64) where
+  -- the derived `==`, whichever word it compares first: they are equal exactly if they mean one set
+  pub mask_eq : mask_equal.eq-value.it s t ≡ eqb (mask_means s) (mask_means t)
+  unfolding mask_means
+  mask_eq =
+      let here = words_eq s.low s.high t.low t.high low low' in
+      let turned = and_comm (eqb s.high t.high) (eqb s.low t.low) in
+      cc
+
+  -- the derived `<`: the one is less exactly if its set is, as a number
+  pub mask_lt : partial_lt mask_order.partial_cmp-value.it s t ≡ ltb (mask_means s) (mask_means t)
+  unfolding mask_means
+  mask_lt = go (eqb s.high t.high) refl
+    where
+      go : (same : Bool) → eqb s.high t.high ≡ same → partial_lt mask_order.partial_cmp-value.it s t ≡ ltb (mask_means s) (mask_means t)
+      go true e =
+          let same : s.high ≡ t.high = eqb-true s.high t.high e in
+          rw (le-ltb s.high t.high (omega arith), e) (less_last (ltb s.low t.low) (eqb s.low t.low) ∙ ltb_low_word s.low s.high t.low t.high low low' same)
+      go false e =
+          rw e (less_differ (ltb s.high t.high) (nat_cmp s.low t.low) ∙ ltb_high_word s.low s.high t.low t.high low low' (eqb-false s.high t.high e))
 
 -- ---- a union
 

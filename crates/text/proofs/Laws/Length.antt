@@ -3,11 +3,14 @@ use Prim.Native.Nat.{ℕ, ◌^◌, ◌≤◌, ◌<◌}
 use native.Mathlib.Omega.{arith}
 use mathlib.Core.Path.{refl}
 use mathlib.Core.List.{◌++◌, Memᴰ}
-use lib.Dec.{T}
+use lib.Dec.{T, lit<}
 use lib.ListN.{length, length-append}
 use Rattle.sets.specs.Sets.{members, size}
 use Rattle.sets.proofs.Laws.Lists.Flatten.{flatten_length}
 use Rattle.sets.proofs.Laws.Sets.Members.{members-below}
+use Rattle.board.specs.Answers.{refusal_number}
+use Rattle.board.specs.declared.Refusal.{Refusal}
+use Rattle.board.specs.declared.Refusal.TheVariants as refusal
 use Rattle.board.specs.Board.{Board, W}
 use Rattle.board.specs.Sizes.{most_declarations, most_w}
 use Rattle.board.specs.Table.{table_of}
@@ -102,6 +105,31 @@ module _ (b : Board) (k : Accepted b) (s : Search) (formed : Formed bench b s) (
   ran-length = rw (run_search-answers bench b k s formed allowance) answer-length
 
 -- ---- refusals
+
+-- document 01's numbers have two digits at most
+pub refusal-few : (r : Refusal) → refusal_number r < 256
+refusal-few refusal.CutOff = lit< tt
+refusal-few refusal.Kind = lit< tt
+refusal-few refusal.Misplaced = lit< tt
+refusal-few refusal.Atom = lit< tt
+refusal-few refusal.Declaration = lit< tt
+refusal-few refusal.Hypothesis = lit< tt
+refusal-few refusal.Weight = lit< tt
+refusal-few refusal.Product = lit< tt
+refusal-few refusal.Body = lit< tt
+refusal-few refusal.Head = lit< tt
+refusal-few refusal.Level = lit< tt
+refusal-few refusal.Rules = lit< tt
+refusal-few refusal.Table = lit< tt
+refusal-few refusal.Length = lit< tt
+refusal-few refusal.AskedAtom = lit< tt
+refusal-few refusal.AskedOrder = lit< tt
+refusal-few refusal.BoardState = lit< tt
+refusal-few refusal.StoreFull = lit< tt
+refusal-few refusal.Overlap = lit< tt
+refusal-few refusal.ListFull = lit< tt
+refusal-few refusal.Search = lit< tt
+refusal-few refusal.Line = lit< tt
 
 pub refused-length : (number : ℕ) → number < 256 → length (refused_text number) ≤ most_text
 unfolding refused_text bytes_of

@@ -13,7 +13,7 @@ put_bytes-requires-in-More c = rw c.in-More.is at c.requires
 
 pub put_ended-requires : goal.put_ended-requires
 unfolding bytes_of ending_text ending_means
-put_ended-requires c = rw c.in-Refused.is at c.requires
+put_ended-requires c = rw c.number.ensures (rw c.in-Refused.is at c.requires)
 
 pub returns-in-Done : goal.returns-in-Done
 unfolding bytes_of ending_text ending_means
@@ -25,4 +25,4 @@ returns-in-More c = rw c.in-More.is c.put_bytes-in-More.ensures
 
 pub returns-in-Refused : goal.returns-in-Refused
 unfolding bytes_of ending_text ending_means
-returns-in-Refused c = rw c.in-Refused.is c.put_ended.ensures
+returns-in-Refused c = rw (c.in-Refused.is, ← c.number.ensures) c.put_ended.ensures

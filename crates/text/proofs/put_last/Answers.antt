@@ -16,14 +16,15 @@ put_labelled-second-requires c = omega (arith, simp length-append at c.requires)
 
 pub put_labelled-third-requires : goal.put_labelled-third-requires
 unfolding bytes_of
-put_labelled-third-requires c = omega (arith, simp length-append at c.requires)
+put_labelled-third-requires c = rw c.from.ensures (omega (arith, simp length-append at c.requires))
 
 pub put_ending-requires : goal.put_ending-requires
 unfolding bytes_of
-put_ending-requires c = simp length-append (omega (arith, simp length-append at c.requires))
+put_ending-requires c = simp length-append (omega (arith, simp length-append at c.requires, rw c.from.ensures at c.put_labelled-third.ensures.next))
 
 pub returns : goal.returns
 unfolding bytes_of
 returns c =
     simp append_assoc
-    (put_both c.put_labelled-first.ensures (put_both c.put_labelled-second.ensures (put_both c.put_labelled-third.ensures c.put_ending.ensures)))
+    (rw c.from.ensures at
+    (put_both c.put_labelled-first.ensures (put_both c.put_labelled-second.ensures (put_both c.put_labelled-third.ensures c.put_ending.ensures))))

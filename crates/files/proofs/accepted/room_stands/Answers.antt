@@ -4,10 +4,10 @@ use Rattle.std.proofs.lemmas.Grind.{common_steps}
 use Rattle.board.specs.Private.Fields.{room_stands}
 use Rattle.files.proofs.accepted.room_stands.Goals as goal
 
-pub returns-then-zero_bytes-3 : goal.returns-then-zero_bytes-3
+pub returns-then-zero_from-4 : goal.returns-then-zero_from-4
 unfolding room_stands
-returns-then-zero_bytes-3 c = grind (arith, common_steps)
+returns-then-zero_from-4 c = grind (arith, common_steps)
 
-pub returns-else-zero_bytes-3 : goal.returns-else-zero_bytes-3
+pub returns-else-zero_from-4 : goal.returns-else-zero_from-4
 unfolding room_stands
-returns-else-zero_bytes-3 c = grind (arith, common_steps)
+returns-else-zero_from-4 c = grind (arith, common_steps)

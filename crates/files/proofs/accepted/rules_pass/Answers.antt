@@ -15,39 +15,37 @@ use Rattle.board.proofs.Laws.Load.{record_passes-zero, zero-record_passes}
 use Rattle.board.specs.Private.Fields.{rule_stands}
 use Rattle.board.specs.Table.{rules_in}
 use Rattle.files.specs.Private.Seen.{AtomsOf}
+use Rattle.files.specs.Private.Taking.{failed_number}
 use Rattle.board.proofs.Laws.Lent.{length-rules_in}
+use Rattle.files.proofs.Laws.Failed.{failed-err, failed-ok}
 use Rattle.files.proofs.accepted.rules_pass.Goals as goal
-use Rattle.files.proofs.accepted.rules_pass.Goals.{After-rule_refusal}
-
-pub loop-j-init : goal.loop-j-init
-loop-j-init c = (omega arith, λ hs m k h. absurd (omega arith))
+use Rattle.files.proofs.accepted.rules_pass.Goals.{After-rule_check}
 
 -- the check of the rule at j, as it stands in the arrays
-standing : (c : After-rule_refusal) (hs : List Hypothesis)
-    → let a = c.args in
+standing : (c : After-rule_check) (hs : List Hypothesis)
+    → let t = c.args.t.now in
     let j = c.loop-j.j in
-    AtomsOf hs a.hypotheses
-    → c.rule_refusal.result ≡ first_failing (field_checks (record { atoms = a.atoms; hypotheses = hs; rules = rules_in a.head.now a.body.now j })
-    (rule (get_or a.head.now j 0) (take 8 (drop (8 * j) a.body.now))))
+    AtomsOf hs c.args.hypotheses
+    → failed_number c.rule_check.result ≡ first_failing (field_checks (record { atoms = t.atoms; hypotheses = hs; rules = rules_in t.head t.body j })
+    (rule (get_or t.head j 0) (take 8 (drop (8 * j) t.body))))
 standing c hs m =
-    let a = c.args in
-    let j = c.loop-j.j in
-    rw (← c.eight_bytes.ensures) (c.rule_refusal.ensures _ refl m (length-rules_in a.head.now a.body.now j))
+    let t = c.args.t.now in
+    rw (← c.eight_bytes-places.ensures) (c.rule_check.ensures _ refl m (length-rules_in t.head t.body c.loop-j.j))
 
-pub returns-then-rule_refusal-ne0 : goal.returns-then-rule_refusal-ne0
+pub returns-then-is_err : goal.returns-then-is_err
 unfolding rule_stands
-returns-then-rule_refusal-ne0 c hs m =
-    let a = c.args in
-    let l = c.loop-j in
-    sym (false_of_T _ (λ t. c.if-rule_refusal-ne0.true (standing (goal.at.returns-then-rule_refusal-ne0 c).After-rule_refusal hs m ∙ record_passes-zero _ _ (all_at _ t (below_of {n = a.rules} {i = l.j} (omega arith))))))
+returns-then-is_err c hs m =
+    let stands = standing (goal.at.returns-then-is_err c).After-rule_check hs m in
+    sym (false_of_T _ (λ t. failed-err c.rule_check.result c.if-is_err.ensures.value
+    (stands ∙ record_passes-zero _ _ (all_at _ t (below_of {n = c.args.t.now.rules} {i = c.loop-j.j} (omega arith))))))
 
 pub loop-j-preserved : goal.loop-j-preserved
 unfolding rule_stands
-loop-j-preserved c =
-    let l = c.loop-j in
-    (omega arith, λ hs m. below_more _ _ (l.invariant.1 hs m) (zero-record_passes _ _ (sym (standing (goal.at.loop-j-preserved c).After-rule_refusal hs m) ∙ c.if-rule_refusal-ne0.false)))
+loop-j-preserved c hs m =
+    let stands = standing (goal.at.loop-j-preserved c).After-rule_check hs m in
+    below_more _ _ (c.loop-j.invariant hs m) (zero-record_passes _ _ (sym stands ∙ failed-ok c.rule_check.result c.if-is_err.ensures.negation))
 
 pub returns : goal.returns
 returns c hs m =
-    let all_of : c.loop-j.j ≡ c.args.rules = omega arith in
-    sym (true_of_T _ (all-below _ _ (λ k h. c.loop-j.invariant.1 hs m k (omega arith))))
+    let all_of : c.loop-j.j ≡ c.args.t.now.rules = omega arith in
+    sym (true_of_T _ (all-below _ _ (λ k h. c.loop-j.invariant hs m k (omega arith))))

@@ -8,32 +8,32 @@ use Rattle.board.specs.Sizes.{most_w}
 use Rattle.board.specs.Board.{Board, W}
 use Rattle.board.specs.Load.{at_the_end}
 use Rattle.board.specs.Table.{table_of}
+use Rattle.board.specs.EntryPoints.{outcome_of}
 use Rattle.files.specs.Private.Taking.{ending}
-use Rattle.board.proofs.Laws.EntryPoints.{refuses_loads, accepts_loads}
 use Rattle.board.proofs.Laws.Table.Arrays.{board_in-table_of}
 use Rattle.files.proofs.load.ended.Goals as goal
 use Rattle.files.proofs.load.ended.Goals.{After-whole_weight}
 
 -- W, as the code sees it
-weight : (c : After-whole_weight) (b : Board) → c.args.t ≡ table_of b → c.whole_weight.result ≡ min (W b) (most_w + 1)
+weight : (c : After-whole_weight) (b : Board) → c.args.t.now ≡ table_of b → c.whole_weight.result ≡ min (W b) (most_w + 1)
 weight c b e =
-    let t = c.args.t in
+    let t = c.args.t.now in
     let whole : min t.hypotheses 128 ≡ t.hypotheses = omega arith in
     rw (whole, board_in-table_of b t e) at (c.whole_weight.ensures t.atoms t.atom b.rules)
 
 pub returns-then-whole_weight-gt-MOST_W : goal.returns-then-whole_weight-gt-MOST_W
-unfolding ending
+unfolding ending outcome_of
 returns-then-whole_weight-gt-MOST_W c b file e l =
-    refuses_loads _ _ 8 _ (rw (lt-ltb most_w (W b) (omega (arith, weight (goal.at.returns-then-whole_weight-gt-MOST_W c).After-whole_weight b e)))) c.refused.ensures
+    rw (lt-ltb most_w (W b) (omega (arith, weight (goal.at.returns-then-whole_weight-gt-MOST_W c).After-whole_weight b e)))
 
 pub returns-then-next-len : goal.returns-then-next-len
-unfolding ending at_the_end
+unfolding ending at_the_end outcome_of
 returns-then-next-len c b file e l =
-    let a = c.args in
-    refuses_loads _ _ 3 _ (rw (le-ltb most_w (W b) (omega (arith, weight (goal.at.returns-then-next-len c).After-whole_weight b e)), lt-ltb a.next (length file) (omega arith))) c.refused-then-next-len.ensures
+    let w = weight (goal.at.returns-then-next-len c).After-whole_weight b e in
+    rw (le-ltb most_w (W b) (omega (arith, w)), lt-ltb c.args.next (length file) (omega arith))
 
 pub returns : goal.returns
-unfolding ending at_the_end
+unfolding ending at_the_end outcome_of
 returns c b file e l =
-    let a = c.args in
-    accepts_loads _ b _ (rw (le-ltb most_w (W b) (omega (arith, weight (goal.at.returns c).After-whole_weight b e)), le-ltb a.next (length file) (omega arith))) e
+    let w = weight (goal.at.returns c).After-whole_weight b e in
+    rw (le-ltb most_w (W b) (omega (arith, w)), le-ltb c.args.next (length file) (omega arith))

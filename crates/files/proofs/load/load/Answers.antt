@@ -8,26 +8,25 @@ use mathlib.Core.List.{List}
 use lib.Dec.{T}
 use lib.Pow.{are_bytes}
 use lib.ListN.{length}
-use Rattle.board.specs.Answers.{refused_at}
+use Rattle.std.proofs.lemmas.Result.{err_from_is_err_and}
+use Rattle.board.specs.Answers.{accepted}
 use Rattle.board.specs.File.{Record, Found, count, hypothesis, rule, low_bytes}
 use Rattle.board.proofs.Laws.File.Bytes.{are_bytes_of}
 use Rattle.board.specs.Load.{first_failing, field_checks, taking, is_finish}
 use Rattle.board.proofs.Laws.Load.Checks.{rule-filled_first}
 use Rattle.board.proofs.Laws.Load.Loaded.{begun_rules, begun_atoms}
-use Rattle.files.proofs.Laws.Passed.{Passes, passed-accepted}
+use Rattle.files.proofs.Laws.Passed.{Passes, passed-accepted, outcome-refused, ending-accepted}
 use Rattle.files.proofs.Laws.Progress.{Progress, progress_start, ends_refused, ends_finished, goes_further, next-sound, goes_on, room-hypotheses, room-last}
 use Rattle.board.proofs.Laws.Load.Room.{room-after-hypothesis, room-after-rule}
 use Rattle.board.specs.Table.{table_of}
 use Rattle.board.proofs.Laws.Table.Taking.{table_of-count, table_of-hypothesis, table_of-rule}
 use Rattle.board.proofs.Laws.Load.Passes.{so_far}
 use Rattle.files.specs.Private.Seen.{SeenOf}
-use Rattle.files.specs.Private.Taking.{number_in, place_in}
-use Rattle.board.specs.EntryPoints.{record_means, read_means}
-use Rattle.board.proofs.Laws.EntryPoints.{refuses_loads}
+use Rattle.board.specs.EntryPoints.{record_means, read_means, table_answer}
 use Rattle.board.specs.declared.Table.{Table}
 use Rattle.files.specs.declared.checks.Seen.{Seen}
 use Rattle.files.proofs.load.load.Goals as goal
-use Rattle.files.proofs.load.load.Goals.{In-At, In-Hypothesis, In-Rule}
+use Rattle.files.proofs.load.load.Goals.{In-Ok, In-Hypothesis, In-Rule}
 
 -- the board read so far, by what the table has of it
 module _ {file : List ℕ} {t : Table} {seen : Seen} {at : ℕ} (p : Progress file t seen at) where
@@ -40,28 +39,27 @@ module _ {file : List ℕ} {t : Table} {seen : Seen} {at : ℕ} (p : Progress fi
   rules-same = sym (ap (λ (u : Table). u.rules) p.table)
 
 pub loop-found-init : goal.loop-found-init
-loop-found-init c = rw c.zero_table-t.ensures (progress_start _ _ c.nothing_seen-seen.ensures)
+loop-found-init c = rw c.zero-t.ensures (progress_start _ _ c.nothing-seen.ensures)
 
 pub returns-in_default : goal.returns-in_default
-unfolding read_means number_in place_in
+unfolding read_means table_answer
 returns-in_default c =
     let p = c.loop-found.invariant in
     let passed = c.passed_record-answer.ensures _ (atoms-same p) (rules-same p) p.known in
-    let answer : read_means c.passed_record-answer.result ≡ refused_at c.in_default.field-0 c.in_default.field-1 = ap read_means c.in_default.is in
-    refuses_loads _ _ c.in_default.field-0 c.in_default.field-1 (ends_refused p _ _ (sym passed ∙ answer))
-    (rw (c.number_in.ensures ∙ ap number_in answer, c.place_in.ensures ∙ ap place_in answer) at c.refused.ensures)
+    let told = ap read_means c.unwrap_err.ensures in
+    rw (ends_refused p _ _ (sym passed ∙ told))
 
 -- ---- a record that passes
 
-module _ (k : In-At) where
+module _ (k : In-Ok) where
   abbrev read : Found
-  read = record { found = record_means k.in-At.found; next = k.in-At.next }
+  read = record { found = record_means k.in-Ok.found.record; next = k.in-Ok.found.next }
 
   passes : Passes k.args.file.now k.loop-found.at k.loop-found.invariant.board read
   unfolding read_means
   passes =
       let p = k.loop-found.invariant in
-      passed-accepted _ _ _ read (sym (k.passed_record-answer.ensures _ (atoms-same p) (rules-same p) p.known) ∙ ap read_means k.in-At.is)
+      passed-accepted _ _ _ read (sym (k.passed_record-answer.ensures _ (atoms-same p) (rules-same p) p.known) ∙ ap read_means k.in-Ok.is)
 
   further : length k.args.file.now - read.next < length k.args.file.now - k.loop-found.at
   further = omega (arith, goes_further k.loop-found.invariant read passes)
@@ -107,86 +105,96 @@ module _ (k : In-At) where
     rule-room = omega (arith, rule_fits, ap (λ (u : Table). u.rules) k.loop-found.invariant.table)
 
 -- what was read is a hypothesis, or a rule
-is_hypothesis_lem : (c : In-Hypothesis) → record_means c.in-At.found ≡ hypothesis c.in-Hypothesis.d c.in-Hypothesis.a c.in-Hypothesis.w
+is_hypothesis_lem : (c : In-Hypothesis) → record_means c.in-Ok.found.record ≡ hypothesis c.in-Hypothesis.d c.in-Hypothesis.a c.in-Hypothesis.w
 unfolding record_means
 is_hypothesis_lem c = ap record_means c.in-Hypothesis.is
 
-is_rule : (c : In-Rule) → record_means c.in-At.found ≡ rule c.in-Rule.head (low_bytes 8 c.in-Rule.places)
+is_rule : (c : In-Rule) → record_means c.in-Ok.found.record ≡ rule c.in-Rule.head (low_bytes 8 c.in-Rule.places)
 unfolding record_means
 is_rule c = ap record_means c.in-Rule.is
 
 pub bounds-t-i : goal.bounds-t-i
-bounds-t-i c = hypothesis-room (goal.at.bounds-t-i c).In-At _ _ _ (is_hypothesis_lem c)
+bounds-t-i c = hypothesis-room (goal.at.bounds-t-i c).In-Ok _ _ _ (is_hypothesis_lem c)
 
 pub offset_bounds-t-i : goal.offset_bounds-t-i
-offset_bounds-t-i c = omega (arith, hypothesis-room (goal.at.offset_bounds-t-i c).In-At _ _ _ (is_hypothesis_lem c))
+offset_bounds-t-i c = omega (arith, hypothesis-room (goal.at.offset_bounds-t-i c).In-Ok _ _ _ (is_hypothesis_lem c))
 
 pub bounds-t-i-in-Hypothesis : goal.bounds-t-i-in-Hypothesis
-bounds-t-i-in-Hypothesis c = hypothesis-room (goal.at.bounds-t-i-in-Hypothesis c).In-At _ _ _ (is_hypothesis_lem c)
+bounds-t-i-in-Hypothesis c = hypothesis-room (goal.at.bounds-t-i-in-Hypothesis c).In-Ok _ _ _ (is_hypothesis_lem c)
 
 pub bounds-t-i-in-Hypothesis-2 : goal.bounds-t-i-in-Hypothesis-2
-bounds-t-i-in-Hypothesis-2 c = hypothesis-room (goal.at.bounds-t-i-in-Hypothesis-2 c).In-At _ _ _ (is_hypothesis_lem c)
+bounds-t-i-in-Hypothesis-2 c = hypothesis-room (goal.at.bounds-t-i-in-Hypothesis-2 c).In-Ok _ _ _ (is_hypothesis_lem c)
 
 pub overflow_add-t : goal.overflow_add-t
-overflow_add-t c = omega (arith, hypothesis-room (goal.at.overflow_add-t c).In-At _ _ _ (is_hypothesis_lem c))
+overflow_add-t c = omega (arith, hypothesis-room (goal.at.overflow_add-t c).In-Ok _ _ _ (is_hypothesis_lem c))
 
-pub seen_with-seen-requires : goal.seen_with-seen-requires
-seen_with-seen-requires c = room-last c.loop-found.invariant
+pub with-seen-requires : goal.with-seen-requires
+with-seen-requires c = room-last c.loop-found.invariant
 
 pub bounds-t-i-in-Rule : goal.bounds-t-i-in-Rule
-bounds-t-i-in-Rule c = rule-room (goal.at.bounds-t-i-in-Rule c).In-At _ _ (is_rule c)
+bounds-t-i-in-Rule c = rule-room (goal.at.bounds-t-i-in-Rule c).In-Ok _ _ (is_rule c)
 
 pub put-requires : goal.put-requires
-put-requires c = rule-room (goal.at.put-requires c).In-At _ _ (is_rule (goal.at.put-requires c).In-Rule)
+put-requires c = rule-room (goal.at.put-requires c).In-Ok _ _ (is_rule (goal.at.put-requires c).In-Rule)
 
 pub overflow_add-t-in-Rule : goal.overflow_add-t-in-Rule
-overflow_add-t-in-Rule c = omega (arith, rule-room (goal.at.overflow_add-t-in-Rule c).In-At _ _ (is_rule (goal.at.overflow_add-t-in-Rule c).In-Rule))
+overflow_add-t-in-Rule c = omega (arith, rule-room (goal.at.overflow_add-t-in-Rule c).In-Ok _ _ (is_rule (goal.at.overflow_add-t-in-Rule c).In-Rule))
 
 pub ended-requires : goal.ended-requires
 ended-requires c = room-hypotheses c.loop-found.invariant
 
+pub returns-in_err-ended-in-End : goal.returns-in_err-ended-in-End
+unfolding record_means is_finish table_answer
+returns-in_err-ended-in-End c =
+    let p = c.loop-found.invariant in
+    let k = (goal.at.returns-in_err-ended-in-End c).In-Ok in
+    let finished = ends_finished p (read k) (passes k) (ap (λ x. is_finish (record_means x)) c.in-End.is) in
+    let r = err_from_is_err_and c.from_residual.result c.from_residual.ensures.1 in
+    rw (r.1, r.2, finished, outcome-refused _ _ _ (c.in_err-ended-in-End.ensures p.board _ p.table refl))
+
 pub returns-in-End : goal.returns-in-End
-unfolding record_means is_finish
+unfolding record_means is_finish table_answer
 returns-in-End c =
     let p = c.loop-found.invariant in
-    let k = (goal.at.returns-in-End c).In-At in
-    rw (ends_finished p (read k) (passes k) (ap (λ x. is_finish (record_means x)) c.in-End.is)) (c.ended.ensures p.board _ p.table refl)
+    let k = (goal.at.returns-in-End c).In-Ok in
+    let finished = ends_finished p (read k) (passes k) (ap (λ x. is_finish (record_means x)) c.in-End.is) in
+    rw (finished, ending-accepted _ _ _ _ (c.in_ok-ended-in-End.ensures p.board _ p.table refl)) (ap accepted p.table)
 
 pub loop-found-smaller-in-Count : goal.loop-found-smaller-in-Count
-loop-found-smaller-in-Count c = further (goal.at.loop-found-smaller-in-Count c).In-At
+loop-found-smaller-in-Count c = further (goal.at.loop-found-smaller-in-Count c).In-Ok
 
 pub loop-found-preserved-in-Count : goal.loop-found-preserved-in-Count
 unfolding record_means is_finish taking
 loop-found-preserved-in-Count c =
     let p = c.loop-found.invariant in
     let n = c.in-Count.n in
-    again (goal.at.loop-found-preserved-in-Count c).In-At (count n) (ap record_means c.in-Count.is) refl _ _
-    (rw c.wide.ensures.value (table_of-count p.board c.loop-found.t p.table n)) p.known
+    again (goal.at.loop-found-preserved-in-Count c).In-Ok (count n) (ap record_means c.in-Count.is) refl _ _
+    (rw c.from.ensures (table_of-count p.board c.loop-found.t p.table n)) p.known
 
 pub loop-found-smaller-in-Hypothesis : goal.loop-found-smaller-in-Hypothesis
-loop-found-smaller-in-Hypothesis c = further (goal.at.loop-found-smaller-in-Hypothesis c).In-At
+loop-found-smaller-in-Hypothesis c = further (goal.at.loop-found-smaller-in-Hypothesis c).In-Ok
 
 pub loop-found-preserved-in-Hypothesis : goal.loop-found-preserved-in-Hypothesis
 loop-found-preserved-in-Hypothesis c =
     let p = c.loop-found.invariant in
     let at = goal.at.loop-found-preserved-in-Hypothesis c in
-    let k = at.In-At in
+    let k = at.In-Ok in
     let h = c.in-Hypothesis in
     let is = is_hypothesis_lem at.In-Hypothesis in
     let goes = unfinished k _ _ _ is in
     again k (hypothesis h.d h.a h.w) is goes _ _
     (table_of-hypothesis p.board c.loop-found.t p.table h.d h.a h.w (hypothesis-fits k _ _ _ is))
-    (c.seen_with-seen.ensures h.w p.board (begun_atoms p.board p.begun) p.known (checks k _ is goes))
+    (c.with-seen.ensures h.w p.board (begun_atoms p.board p.begun) p.known (checks k _ is goes))
 
 pub loop-found-smaller : goal.loop-found-smaller
-loop-found-smaller c = further (goal.at.loop-found-smaller c).In-At
+loop-found-smaller c = further (goal.at.loop-found-smaller c).In-Ok
 
 pub loop-found-preserved : goal.loop-found-preserved
 unfolding taking low_bytes
 loop-found-preserved c =
     let p = c.loop-found.invariant in
     let at = goal.at.loop-found-preserved c in
-    let k = at.In-At in
+    let k = at.In-Ok in
     let head = c.in-Rule.head in
     let places = low_bytes 8 c.in-Rule.places in
     let is = is_rule at.In-Rule in

@@ -2,14 +2,21 @@
 use Rattle.std.proofs.Common.{arith}
 use Rattle.std.proofs.lemmas.Grind.{common_steps}
 use Rattle.board.specs.Load.{misplaced_at}
+use Rattle.files.proofs.Laws.Kinds.{known_number}
 use Rattle.files.proofs.load.misplaced_at.Goals as goal
+use Rattle.files.proofs.load.misplaced_at.Goals.{in_default-via-in-None-1, in_default-via-in-Some+in-Err-1}
 
-pub returns-then-known_kind : goal.returns-then-known_kind
+pub returns : goal.returns
 unfolding misplaced_at
-returns-then-known_kind c b e l =
+returns c b e l =
+    let k = known_number c.in-Ok.kind in
     let m = c.misplaced_here.ensures b e l in
     grind (arith, common_steps)
 
-pub returns-else-known_kind : goal.returns-else-known_kind
+pub returns-2 : goal.returns-2
 unfolding misplaced_at
-returns-else-known_kind c b e l = grind (arith, common_steps)
+returns-2 c b e l =
+    elim c.in_default.branch [
+      | in_default-via-in-None-1 w ↦ grind (arith, common_steps)
+      | in_default-via-in-Some+in-Err-1 w ↦ grind (arith, common_steps)
+    ]

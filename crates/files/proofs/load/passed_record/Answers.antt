@@ -1,16 +1,18 @@
 -- `passed_record` meets its contract: its tests, in their order, are those of `passed_record`. Assumes nothing.
-use native.Mathlib.Omega.{arith}
 use mathlib.Core.Path.{◌≡◌, sym, ap, ◌∙◌}
 use mathlib.Core.Bool.{false}
 use lib.ListN.{length}
+use Rattle.std.proofs.Common.{rules}
+use Rattle.std.proofs.lemmas.Result.{err_from_is_err_and}
 use Rattle.board.specs.Answers.{accepted}
 use Rattle.board.specs.Board.{Board}
 use Rattle.board.specs.File.{Found, read_record}
 use Rattle.board.specs.Load.{misplaced_at}
 use Rattle.board.specs.EntryPoints.{record_means, read_means}
+use Rattle.files.proofs.Laws.Failed.{numbered, failed-ok, failed_on}
 use Rattle.files.proofs.Laws.Passed.{passed-misplaced, passed_unread, passed_failing, passed-passing}
 use Rattle.files.proofs.load.passed_record.Goals as goal
-use Rattle.files.proofs.load.passed_record.Goals.{After-field_refusal-number, After-read_record-answer}
+use Rattle.files.proofs.load.passed_record.Goals.{After-field_check-checked, After-read_record-answer}
 
 pub returns-then-misplaced_at : goal.returns-then-misplaced_at
 unfolding read_means
@@ -28,25 +30,30 @@ returns-in_default c b e l k =
     told ∙ sym (passed_unread _ _ b _ _ (placed (goal.at.returns-in_default c).After-read_record-answer b e l) (sym c.read_record-answer.ensures ∙ told))
 
 -- the record that was read
-module _ (f : After-field_refusal-number) where
+module _ (f : After-field_check-checked) where
   abbrev read : Found
-  read = record { found = record_means f.in-At.found; next = f.in-At.field-1 }
+  read = record { found = record_means f.in-Ok.found.record; next = f.in-Ok.found.next }
 
   read_it : read_record f.args.file.now f.args.at ≡ accepted read
   unfolding read_means
-  read_it = sym f.read_record-answer.ensures ∙ ap read_means f.in-At.is
+  read_it = sym f.read_record-answer.ensures ∙ ap read_means f.in-Ok.is
 
-pub returns-then-number-ne0 : goal.returns-then-number-ne0
+pub returns-in_err-map_err : goal.returns-in_err-map_err
 unfolding read_means
-returns-then-number-ne0 c b e l k =
-    let at = goal.at.returns-then-number-ne0 c in
-    let f = at.After-field_refusal-number in
-    sym (passed_failing _ _ b (read f) (placed at.After-read_record-answer b e l) (read_it f) _ (sym (c.field_refusal-number.ensures b e l k)) (λ z. c.if-number-ne0.true (omega arith)))
+returns-in_err-map_err c b e l k =
+    let at = goal.at.returns-in_err-map_err c in
+    let f = at.After-field_check-checked in
+    let p = err_from_is_err_and c.from_residual.result c.from_residual.ensures.1 in
+    let d = c.in_err-map_err.field-0.0 in
+    let q = failed_on c.field_check-checked.result c.args.at d _ (λ r m. search rules) c.in_err-map_err.ensures.cases in
+    let fails = sym (c.field_check-checked.ensures b e l k) ∙ q.0 in
+    rw (p.1, p.2, q.1)
+    (sym (passed_failing _ _ b (read f) (placed at.After-read_record-answer b e l) (read_it f) _ fails (numbered d.refusal)))
 
 pub returns : goal.returns
 unfolding read_means
 returns c b e l k =
     let at = goal.at.returns c in
-    let f = at.After-field_refusal-number in
-    let none : c.field_refusal-number.result ≡ 0 = omega arith in
-    sym (passed-passing _ _ b (read f) (placed at.After-read_record-answer b e l) (read_it f) (sym (c.field_refusal-number.ensures b e l k) ∙ none))
+    let f = at.After-field_check-checked in
+    let passes = sym (c.field_check-checked.ensures b e l k) ∙ failed-ok c.field_check-checked.result (sym c.in_ok-map_err.ensures.variant) in
+    sym (passed-passing _ _ b (read f) (placed at.After-read_record-answer b e l) (read_it f) passes)

@@ -16,22 +16,16 @@ of s = atom_text (mask_means s.args.set)
 
 pub put_atom-end-requires : goal.put_atom-end-requires
 put_atom-end-requires c =
-    texts_next (of (goal.at.put_atom-end-requires c).Start) c.loop-a.invariant.0 most_atoms (omega arith) (rw (atoms_texts (mask_means c.args.set)) at c.requires)
+    texts_next (of (goal.at.put_atom-end-requires c).Start) c.loop-a.invariant most_atoms (omega arith) (rw (atoms_texts (mask_means c.args.set)) at c.requires)
 
 pub returns : goal.returns
 returns c =
     let l = c.loop-a in
     let all : l.a ≡ most_atoms = omega arith in
-    rw (atoms_texts (mask_means c.args.set), ← all) l.invariant.0
+    rw (atoms_texts (mask_means c.args.set), ← all) l.invariant
 
 pub loop-a-init : goal.loop-a-init
-loop-a-init c = (texts_none (of (goal.at.loop-a-init c).Start), omega arith)
-
-pub overflow_add-a : goal.overflow_add-a
-overflow_add-a c = omega arith
-
-pub loop-a-smaller : goal.loop-a-smaller
-loop-a-smaller c = omega arith
+loop-a-init c = texts_none (of (goal.at.loop-a-init c).Start)
 
 pub loop-a-preserved : goal.loop-a-preserved
-loop-a-preserved c = (texts_put (of (goal.at.loop-a-preserved c).Start) c.loop-a.invariant.0 c.put_atom-end.ensures, omega arith)
+loop-a-preserved c = texts_put (of (goal.at.loop-a-preserved c).Start) c.loop-a.invariant c.put_atom-end.ensures

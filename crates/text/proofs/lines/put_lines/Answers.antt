@@ -26,24 +26,18 @@ pub put_line-end-requires : goal.put_line-end-requires
 put_line-end-requires c =
     let l = c.loop-i in
     let r = c.line_at-l in
-    rw (read r.result (line_in c.args.line.now l.i) r.ensures) at (texts_next (of (goal.at.put_line-end-requires c).Start) l.invariant.0 c.args.n (omega arith) c.requires)
+    rw (read r.result (line_in c.args.line.now l.i) r.ensures) at (texts_next (of (goal.at.put_line-end-requires c).Start) l.invariant c.args.n (omega arith) c.requires)
 
 pub loop-i-preserved : goal.loop-i-preserved
 loop-i-preserved c =
     let l = c.loop-i in
     let r = c.line_at-l in
-    (texts_put (of (goal.at.loop-i-preserved c).Start) l.invariant.0 (rw (read r.result (line_in c.args.line.now l.i) r.ensures) c.put_line-end.ensures), omega arith)
+    texts_put (of (goal.at.loop-i-preserved c).Start) l.invariant (rw (read r.result (line_in c.args.line.now l.i) r.ensures) c.put_line-end.ensures)
 
 pub returns : goal.returns
 returns c =
     let all : c.loop-i.i ≡ c.args.n = omega arith in
-    rw all at c.loop-i.invariant.0
+    rw all at c.loop-i.invariant
 
 pub loop-i-init : goal.loop-i-init
-loop-i-init c = (texts_none (of (goal.at.loop-i-init c).Start), omega arith)
-
-pub overflow_add-i : goal.overflow_add-i
-overflow_add-i c = omega arith
-
-pub loop-i-smaller : goal.loop-i-smaller
-loop-i-smaller c = omega arith
+loop-i-init c = texts_none (of (goal.at.loop-i-init c).Start)

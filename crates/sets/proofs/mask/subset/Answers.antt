@@ -1,9 +1,0 @@
--- `subset` meets its contract: no digit of the one set is left beside those of the other. Assumes nothing.
-use native.Mathlib.Omega.{arith}
-use Rattle.sets.proofs.Laws.Masks.{subset-words}
-use Rattle.sets.proofs.mask.subset.Goals as goal
-
-pub returns : goal.returns
-returns c =
-    let a = c.args in
-    subset-words a.s a.t (omega arith) (omega arith)
