@@ -10,8 +10,8 @@ must-fail/CRATE beside this file, and those of crates/CRATE/must-fail, which
 
 An edit is written as `rt must-fail` reads it, with one line more:
 
-    at: proofs/mask/subset/Answers.antt returns
-    at: src/mask.rt with returns-then-a-gt126
+    at: proofs/mask/Mask/subset/Answers.antt returns
+    at: src/lib.rt file_bytes returns
 
 That is where the first fact stands that is not proved: the file, and the goal
 or the law that the prover names there, if it names one; of a goal of a
@@ -33,6 +33,7 @@ many as there are processors and memory.
 """
 
 import argparse
+import glob
 import os
 import re
 import shutil
@@ -278,11 +279,17 @@ def function_at(crate, file, number):
 
 
 def has_answers(crate, file, function):
-    """Whether a proof file answers goals of a function."""
+    """Whether a proof file answers goals of a function, or of a method: the
+    folder of a method stands in that of its type."""
     module = file.removeprefix("src/").removesuffix(".rt")
     path = [] if module in ("lib", "main") else module.split("/")
-    return os.path.isfile(os.path.join(
-        ROOT, "crates", crate, "proofs", *path, function, "Answers.antt"))
+    proofs = os.path.join(ROOT, "crates", crate, "proofs")
+    plain = os.path.join(proofs, *path, function, "Answers.antt")
+    return bool(os.path.isfile(plain)
+                or glob.glob(os.path.join(proofs, *path, "[A-Z]*", function,
+                                          "Answers.antt"))
+                or glob.glob(os.path.join(proofs, "[A-Z]*", function,
+                                          "Answers.antt")))
 
 
 def held(edit, failing):
