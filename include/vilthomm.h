@@ -36,16 +36,16 @@
    function itself writes, and in brackets with the arguments and the result that the caller holds for it.
 
                             basic steps, at most some                   KiB of stack
-     vilthomm_load          130,000, however long the file                17.4   (20.4)
-     vilthomm_open          90,000                                        65.3   (94.4)
-     vilthomm_run           2,500,000, and 1,500,000 for each step       135.5  (190.5)
-     vilthomm_share         2,500,000                                     47.3   (76.3)
-     vilthomm_yes_or_no     330,000                                       13.2   (16.2)
-     vilthomm_total         90,000                                        10.2   (13.2)
-     vilthomm_listing       load's, open's and run's, 700,000 more       169.6  (169.6)
+     vilthomm_load          130,000, however long the file                11.3   (14.3)
+     vilthomm_open          90,000                                        56.3   (85.3)
+     vilthomm_run           2,500,000, and 1,500,000 for each step        83.7  (138.8)
+     vilthomm_share         2,500,000                                     47.8   (76.8)
+     vilthomm_yes_or_no     330,000                                       11.4   (14.3)
+     vilthomm_total         90,000                                         7.2   (10.2)
+     vilthomm_listing       load's, open's and run's, 700,000 more       117.8  (117.8)
 
    The bound of a step is that of an atom with 256 rules. `bench/run` measures, in processor time on a current x86-64, along whole stretches at 480 to 512
-   entries on five boards (bench/README.md has its figures; these times are of the archive that the toolchain before this one made):
+   entries on five boards (bench/README.md has its figures; these times are of an older archive):
    - A step takes 30 to 130 nanoseconds on average. A run tests its table and its search each time: beside its steps it takes up to 85 to 150 microseconds,
      by the board, as long as 1,200 to 4,000 steps there, and less over a small search. So a run of 1,000 steps takes up to 120 to 270 microseconds, most of
      it tests. Few long runs are cheaper than many short ones.
