@@ -63,6 +63,7 @@ FAILING = re.compile(r"(?:\./)?(proofs/[^:\s]+):(\d+):\d+: error"
 OPEN = re.compile(r"note: (?:\./)?(src/[^:\s]+):(\d+):\d+: it is not proved "
                   r"that (?:.*\(`([^`]+)(`\)|$))?")
 FUNCTION = re.compile(r'\s*(?:pub(?:\([^)]*\))? )?(?:extern "C" )?fn (\w+)')
+IMPL = re.compile(r"impl(?:<'\w+>)? (?:(\w+)(?:<\w+>)? for )?(\w+)")
 # A fact that hangs on one that failed; a proof that names what the edited code
 # or definition no longer has.
 HANGS = re.compile("was not admitted|was rejected, (?:was|were) not checked")
@@ -258,8 +259,9 @@ def first_failing(crate, lines):
     if LIMIT.search(line):
         raise Bad("a tactic that gave up is all that refuses it", [line])
     file, number, name, ends = found.groups()
-    function = function_at(crate, file, int(number))
-    if function and VALUES not in line and has_answers(crate, file, function):
+    owner, function = function_at(crate, file, int(number))
+    if function and VALUES not in line and has_answers(crate, file, owner,
+                                                       function):
         raise Bad("a goal that nothing answers fails first, of a function "
                   "with answers: it may have another name, and no more",
                   [line])
@@ -268,28 +270,33 @@ def first_failing(crate, lines):
 
 
 def function_at(crate, file, number):
-    """The function in which that line of src/ stands; an edit moves none."""
+    """The function in which that line of src/ stands, after the type whose
+    method it is; an edit moves none."""
     if not file.startswith("src/"):
-        return None
+        return None, None
     lines = lines_of(os.path.join(ROOT, "crates", crate, file))
     while lines[number - 1].lstrip().startswith("#["):      # it begins there
         number += 1
-    heads = filter(None, map(FUNCTION.match, reversed(lines[:number])))
-    return next((head[1] for head in heads), None)
+    above = lines[number - 1::-1]
+    head = next(filter(None, map(FUNCTION.match, above)), None)
+    if not head:
+        return None, None
+    impl = head[0][0].isspace() and next(filter(None, map(IMPL.match, above)))
+    return impl[2] + (impl[1] or "") if impl else "", head[1]
 
 
-def has_answers(crate, file, function):
-    """Whether a proof file answers goals of a function, or of a method: the
-    folder of a method stands in that of its type."""
+def has_answers(crate, file, owner, function):
+    """Whether a proof file answers goals of a function.  The folder of a
+    method stands in one named after its type, then its trait, if any: in that
+    of the module, or of the one that declares the type.  Functions that call
+    each other share a folder, which is named after them all."""
     module = file.removeprefix("src/").removesuffix(".rt")
     path = [] if module in ("lib", "main") else module.split("/")
-    proofs = os.path.join(ROOT, "crates", crate, "proofs")
-    plain = os.path.join(proofs, *path, function, "Answers.antt")
-    return bool(os.path.isfile(plain)
-                or glob.glob(os.path.join(proofs, *path, "[A-Z]*", function,
-                                          "Answers.antt"))
-                or glob.glob(os.path.join(proofs, "[A-Z]*", function,
-                                          "Answers.antt")))
+    if owner:
+        path = ["**", owner + "*"]
+    return any(glob.glob(os.path.join(ROOT, "crates", crate, "proofs", *path,
+                                      folder, "Answers.antt"), recursive=True)
+               for folder in (function, "+*%s*" % function))
 
 
 def held(edit, failing):
