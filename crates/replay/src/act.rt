@@ -29,8 +29,8 @@ enum Act<'a> {
 fn next_field(script: &mut Reader<'_>) -> Field {
     Field {
         number: script.byte(),
-        index: usize::from(script.two()),
-        value: script.eight(),
+        index: usize::from(u16::from_le_bytes(script.next())),
+        value: u64::from_le_bytes(script.next()),
     }
 }
 
@@ -38,8 +38,8 @@ fn next_field(script: &mut Reader<'_>) -> Field {
 fn next_act<'a>(script: &mut Reader<'a>) -> Act<'a> {
     match script.byte() {
         1 => Act::Open(script.atoms()),
-        2 => Act::Run(script.two()),
-        3 => Act::Share(script.eight()),
+        2 => Act::Run(u16::from_le_bytes(script.next())),
+        3 => Act::Share(u64::from_le_bytes(script.next())),
         4 => Act::SetInSearch(next_field(script)),
         5 => Act::SetInTable(next_field(script)),
         6 => Act::TrueWeight,

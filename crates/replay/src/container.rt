@@ -23,38 +23,23 @@ impl<'a> Reader<'a> {
         taken
     }
 
-    // The number in the next `n` bytes, low byte first.
-    fn number(&mut self, n: usize) -> u64 {
-        let mut bytes = [0; 8];
-        for (to, from) in bytes.iter_mut().zip(self.bytes(n)) {
+    // The next `N` bytes.
+    pub(crate) fn next<const N: usize>(&mut self) -> [u8; N] {
+        let mut bytes = [0; N];
+        for (to, from) in bytes.iter_mut().zip(self.bytes(N)) {
             *to = *from;
         }
-        u64::from_le_bytes(bytes)
+        bytes
     }
 
     // The next byte.
     pub(crate) fn byte(&mut self) -> u8 {
-        (self.number(1) & 0xff) as u8
-    }
-
-    // The number in two bytes.
-    pub(crate) fn two(&mut self) -> u16 {
-        (self.number(2) & 0xffff) as u16
-    }
-
-    // The number in four bytes.
-    pub(crate) fn four(&mut self) -> u32 {
-        (self.number(4) & 0xffff_ffff) as u32
-    }
-
-    // The number in eight bytes.
-    pub(crate) fn eight(&mut self) -> u64 {
-        self.number(8)
+        u8::from_le_bytes(self.next())
     }
 
     // The bytes that follow their count in two bytes.
     pub(crate) fn part(&mut self) -> &'a [u8] {
-        let n = usize::from(self.two());
+        let n = usize::from(u16::from_le_bytes(self.next()));
         self.bytes(n)
     }
 

@@ -46,7 +46,10 @@ pub(crate) fn record_item<W: Write>(
     item: &mut Reader<'_>,
 ) -> io::Result<()> {
     let file = item.part();
-    print_read(out, read_record(file, item.four() as usize))
+    print_read(
+        out,
+        read_record(file, u32::from_le_bytes(item.next()) as usize),
+    )
 }
 
 // Tests the table of the file with a field set, and prints `table` or `no table`.
@@ -58,8 +61,8 @@ pub(crate) fn table_item<W: Write>(
     let mut table = table_of(item.part());
     let field = Field {
         number: item.byte(),
-        index: usize::from(item.two()),
-        value: u64::from(item.four()),
+        index: usize::from(u16::from_le_bytes(item.next())),
+        value: u64::from(u32::from_le_bytes(item.next())),
     };
     field.set_in_table(&mut table);
     if is_table(&table) {
@@ -84,7 +87,7 @@ pub(crate) fn acts_item<W: Write>(
 fn allowances(alloc: Global, item: &mut Reader<'_>, n: u8) -> io::Result<Vec<u16>> {
     let mut numbers = Vec::new(alloc);
     for _ in 0..n {
-        numbers.push(item.two())?;
+        numbers.push(u16::from_le_bytes(item.next()))?;
     }
     Ok(numbers)
 }
