@@ -1,12 +1,10 @@
 -- The entry points of `files` and `holding`, as the contracts cite them: what each gives, and for each answer that is an enum of the code the paper's
 -- number and values of its cases. Document 01: "A refused yes-or-no or share returns its number alone." Assumes nothing.
 use Rattle.std.specs.Prelude.{ℕ, ◌≡◌, Bool, not, cond, List, leb, Result, Ok, Err}
-use Rattle.board.specs.Sizes.{most_body}
 use Rattle.board.specs.Answers.{FileAnswer, accepted, refused_at, Answer, granted, refused, refusal_number, file_answer_means}
 use Rattle.board.specs.Board.{Board, declarations, is_state_of}
 use Rattle.board.specs.Holds.{holds, in_state}
 use Rattle.board.specs.File as file
-use Rattle.board.specs.File.{low_bytes}
 use Rattle.board.specs.Table.{board_of, table_of, is_table}
 use Rattle.board.specs.declared.Table.{Table}
 use Rattle.board.specs.declared.Record.{Record}
@@ -16,11 +14,11 @@ use Rattle.board.specs.declared.RefusedAt.{RefusedAt}
 
 -- ---- reading one record
 
--- What each value of the code's enum `Record` means: the kinds of "The board file". A rule's eight places stand in one number, low byte first.
+-- What each value of the code's enum `Record` means: the kinds of "The board file"
 unfoldable pub record_means : Record → file.Record
 record_means (Count n) = file.count n
 record_means (Hypothesis d a w) = file.hypothesis d a w
-record_means (Rule h places) = file.rule h (low_bytes most_body places)
+record_means (Rule h places) = file.rule h places
 record_means End = file.finish
 
 -- What reading answers: "the record and the place of the next, or refusal 1 or 2 and its place"

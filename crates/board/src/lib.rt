@@ -1,6 +1,6 @@
 // Boards: what a board, its file and its table are, said in `specs/`, with the laws that the crates above cite; the types of the table and of the answers;
-// and in code the few facts of a table that the crates above ask for once (`facts`), and what they are made of (`walks`, `weights`). This crate knows
-// nothing of searching.
+// and in code the few facts of a table that the crates above ask for once (`facts`), and what they are made of (`weights`). This crate knows nothing of
+// searching.
 //
 // The code that reads files and tells which tables some file loads to is the crate `files`; the yes-or-no is the crate `holding`.
 #![tactic(auto)]
@@ -10,7 +10,6 @@ ghost use Rattle.board.specs.Answers.{refusal_number};
 ghost use Rattle.board.specs.Table.{zero_table};
 
 pub mod facts;
-pub mod walks;
 mod weights;
 
 // A board: the hypotheses and the rules in the order of the file, one array a field. Room past a count is zero. Laid out as in C, for `firmware`.
@@ -90,12 +89,12 @@ pub struct RefusedAt {
     pub place: usize,
 }
 
-// A record by its kind. The eight places of a rule stand in one number, the first place in its low byte.
+// A record by its kind: the atom count; a hypothesis' declaration, atom and weight; a rule's head and its eight places for body atoms; the end.
 #[derive(Clone, Copy, PartialEq, Eq)]
 pub enum Record {
     Count(u8),
     Hypothesis(u8, u8, u32),
-    Rule(u8, u64),
+    Rule(u8, [u8; 8]),
     End,
 }
 

@@ -3,38 +3,26 @@ ghost use Rattle.std.specs.Prelude.{◌≡◌, List, ℕ, ◌≤◌, length};
 ghost use Rattle.board.specs.Sizes.{most_atoms};
 ghost use Rattle.board.specs.Answers.{file_answer_means};
 ghost use Rattle.board.specs.Board.{Board};
-ghost use Rattle.board.specs.Load.{load, misplaced, misplaced_at};
+ghost use Rattle.board.specs.Load.{load, misplaced_at};
 ghost use Rattle.board.specs.Table.{table_of};
 ghost use Rattle.board.specs.EntryPoints.{outcome_of, read_means, LoadsAs};
-ghost use Rattle.files.specs.Private.Kinds.{kind_number};
 ghost use Rattle.files.specs.Private.Seen.{SeenOf};
 ghost use Rattle.files.specs.Private.Taking.{passed_record, ending};
 
-use crate::checks::{Seen, field_check};
+use crate::checks::Seen;
 use crate::places::put;
 use crate::record::{Kind, read_record};
 use board::facts::MOST_W;
 use board::{Found, Record, Refusal, RefusedAt, Table};
 
-// Whether a record of this kind may not stand here. At most 5 basic steps.
-fn misplaced_here(kind: Kind, atoms: usize, rules: usize) -> bool
-    ensures { (b : Board) → b.atoms ≡ atoms → length b.rules ≡ rules → result ≡ misplaced b (kind_number kind) }
-{
-    match kind {
-        Kind::Count => atoms != 0,
-        Kind::Hypothesis => atoms == 0 || 0 < rules,
-        Kind::Rule | Kind::End => atoms == 0,
-    }
-}
-
 // Whether a record of a known kind stands at the place, and may not. At most 12 basic steps.
-fn misplaced_at(file: &[u8], at: usize, atoms: usize, rules: usize) -> bool
-    ensures { (b : Board) → b.atoms ≡ atoms → length b.rules ≡ rules → result ≡ misplaced_at file.now at b }
+fn misplaced_at(file: &[u8], at: usize, seen: Seen) -> bool
+    ensures { (b : Board) → SeenOf b seen → result ≡ misplaced_at file.now at b }
 {
     if let Some(byte) = file.get(at)
         && let Ok(kind) = Kind::try_from(*byte)
     {
-        return misplaced_here(kind, atoms, rules);
+        return seen.is_misplaced(kind);
     }
     false
 }
@@ -63,16 +51,10 @@ fn ended(t: &Table, at: usize, next: usize, len: usize) -> Result<(), RefusedAt>
 
 // The record at a place where it may stand and passes its field checks, and the place of the next; or the refusal. What an end record asks is left to
 // `ended`. At most some 270 basic steps.
-fn passed_record(
-    file: &[u8],
-    at: usize,
-    atoms: usize,
-    rules: usize,
-    seen: Seen,
-) -> Result<Found, RefusedAt>
-    ensures { (b : Board) → b.atoms ≡ atoms → length b.rules ≡ rules → SeenOf b.hypotheses seen → read_means result ≡ passed_record file.now at b }
+fn passed_record(file: &[u8], at: usize, seen: Seen) -> Result<Found, RefusedAt>
+    ensures { (b : Board) → SeenOf b seen → read_means result ≡ passed_record file.now at b }
 {
-    if misplaced_at(file, at, atoms, rules) {
+    if misplaced_at(file, at, seen) {
         return Err(RefusedAt {
             refusal: Refusal::Misplaced,
             place: at,
@@ -82,7 +64,7 @@ fn passed_record(
     let Ok(found) = answer else {
         return answer;
     };
-    let checked = field_check(atoms, rules, seen, found.record);
+    let checked = seen.field_check(found.record);
     checked.map_err(|refusal| RefusedAt { refusal, place: at })?;
     Ok(found)
 }
@@ -94,10 +76,10 @@ pub fn load(file: &[u8]) -> Result<Table, RefusedAt>
     ensures { LoadsAs (load file.now) result }
 {
     let mut t = Table::zero();
-    let mut seen = Seen::nothing();
+    let mut seen = Seen::of_atoms(0);
     let mut at = 0;
     loop {
-        let answer = passed_record(file, at, t.atoms, t.rules, seen);
+        let answer = passed_record(file, at, seen);
         let Ok(found) = answer else {
             return Err(answer.unwrap_err());
         };
@@ -109,7 +91,6 @@ pub fn load(file: &[u8]) -> Result<Table, RefusedAt>
                 t.atom[i] = a;
                 t.weight[i] = w;
                 t.hypotheses = i + 1;
-                seen = seen.with(d, a);
             }
             Record::Rule(head, places) => {
                 let i = t.rules;
@@ -122,6 +103,7 @@ pub fn load(file: &[u8]) -> Result<Table, RefusedAt>
                 return Ok(t);
             }
         }
+        seen = seen.with(found.record);
         at = found.next;
     }
 }

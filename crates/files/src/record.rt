@@ -1,7 +1,7 @@
 // One record of a board file (document 01, "The board file").
 ghost use Rattle.std.specs.Prelude.{◌≡◌, ◌+◌, ◌≤◌, length, take, drop};
 ghost use Rattle.board.specs.Sizes.{most_body};
-ghost use Rattle.board.specs.File.{body_bytes, three_bytes, low_bytes, record_of, read_record};
+ghost use Rattle.board.specs.File.{body_bytes, record_of, read_record};
 ghost use Rattle.board.specs.EntryPoints.{record_means, read_means};
 ghost use Rattle.files.specs.Private.Kinds.{kind_number, KindOf};
 
@@ -45,40 +45,29 @@ impl Kind {
         }
     }
 
-    // The record of this kind whose whole body begins at `at`.
-    fn read_body(self, file: &[u8], at: usize) -> Record
-        requires { at + body_bytes (kind_number self) ≤ length file.now }
-        ensures { record_means result ≡ record_of (kind_number self) file.now at }
+    // The record of this kind whose body these bytes begin with.
+    fn read_body(self, body: &[u8]) -> Record
+        requires { body_bytes (kind_number self) ≤ length body.now }
+        ensures { record_means result ≡ record_of (kind_number self) body.now 0 }
     {
         match self {
-            Kind::Count => Record::Count(file[at]),
-            Kind::Hypothesis => Record::Hypothesis(
-                file[at],
-                file[at + 1],
-                three_bytes(file, at + 2),
-            ),
-            Kind::Rule => Record::Rule(file[at], eight_bytes(file, at + 1)),
+            Kind::Count => Record::Count(body[0]),
+            Kind::Hypothesis => {
+                let [d, a, low, middle, high] = *body.first_chunk::<5>().unwrap();
+                Record::Hypothesis(d, a, u32::from_le_bytes([low, middle, high, 0]))
+            }
+            Kind::Rule => Record::Rule(body[0], *eight_bytes(body, 1)),
             Kind::End => Record::End,
         }
     }
 }
 
-// The eight bytes from `at` on as one number, low byte first.
-pub(crate) fn eight_bytes(file: &[u8], at: usize) -> u64
-    requires { at + most_body ≤ length file.now }
-    ensures { low_bytes most_body result ≡ take most_body (drop at file.now) }
+// The eight bytes from `at` on, where they stand.
+pub(crate) fn eight_bytes(bytes: &[u8], at: usize) -> &[u8; 8]
+    requires { at + most_body ≤ length bytes.now }
+    ensures { result.now ≡ take most_body (drop at bytes.now) }
 {
-    let mut bytes = [0; 8];
-    bytes.copy_from_slice(&file[at..at + 8]);
-    u64::from_le_bytes(bytes)
-}
-
-// The three bytes from `at` on as one number, low byte first.
-fn three_bytes(file: &[u8], at: usize) -> u32
-    requires { at + 3 ≤ length file.now }
-    ensures { result ≡ three_bytes file.now at }
-{
-    u32::from_le_bytes([file[at], file[at + 1], file[at + 2], 0])
+    bytes[at..].first_chunk().unwrap()
 }
 
 // Reads the record at a place of a board file. A place past the end counts as the file's length.
@@ -101,7 +90,7 @@ pub fn read_record(file: &[u8], at: usize) -> Result<Found, RefusedAt>
         });
     }
     Ok(Found {
-        record: kind.read_body(file, at + 1),
+        record: kind.read_body(&file[at + 1..]),
         next,
     })
 }

@@ -2,14 +2,16 @@
 pub mod Endings
 pub mod Numbers
 pub mod Sequence
+use Rattle.std.specs.Prelude.{Result, Ok, Err, IsOkAnd, MatchResult}
 use Prim.Native.Nat.{ℕ}
 use mathlib.Core.Path.{◌≡◌, refl, sym, ap, ◌∙◌}
 use mathlib.Core.Bool.{Bool, true, false}
 use mir.Val.{bool_byte}
-use Rattle.board.specs.Answers.{FileAnswer, accepted, refused_at, Answer, granted, refused}
+use Rattle.board.specs.Answers.{FileAnswer, accepted, refused_at, Answer, granted, refused, answer_means}
 use Rattle.board.specs.Board.{Board}
 use Rattle.board.specs.EntryPoints.{table_answer}
 use Rattle.board.specs.Table.{table_in, zero_table}
+use Rattle.board.specs.declared.Refusal.{Refusal}
 use Rattle.board.specs.declared.Table.{Table}
 use Rattle.board.proofs.Promise.{accepted-of, refused_at-of}
 use Rattle.search.specs.EntryPoints.{stored_answer, opened_search}
@@ -17,7 +19,7 @@ use Rattle.search.specs.Search.{Search}
 use Rattle.search.specs.Store.{zero_stored}
 use Rattle.search.specs.declared.Search.{Search as Stored}
 use Rattle.search.proofs.Laws.EntryPoints.{granted-of, refused-of}
-use Rattle.firmware.specs.Answers.{file_number, file_place, load_answer, number_of, open_answer, held_number, holds_answer}
+use Rattle.firmware.specs.Answers.{file_number, file_place, load_answer, number_of, open_answer, granted_number, held_number, holds_answer}
 use Rattle.firmware.specs.declared.HoldsAnswer.{HoldsAnswer}
 use Rattle.firmware.specs.declared.LoadAnswer.{LoadAnswer}
 use Rattle.firmware.specs.declared.OpenAnswer.{OpenAnswer}
@@ -47,8 +49,12 @@ module _ (answer : Answer Search) where
   unfolding open_answer number_of opened_search
   opens-refused number e = rw (refused-of answer number e) refl
 
--- what is handed on of a yes-or-no: 1 or 0
-pub held : (b : Bool) → Path HoldsAnswer (record { number = 0; holds = bool_byte b }) (holds_answer (granted b))
-unfolding holds_answer number_of held_number
-held true = refl
-held false = refl
+-- what is handed on of a yes-or-no: 1 or 0, or the refusal's number
+module _ (Made : Bool → ℕ → Type 0) (h : (b : Bool) (n : ℕ) → Made b n → n ≡ bool_byte b) where
+  pub held : (r : Result Bool Refusal) (made : Result ℕ Refusal) → MatchResult r (λ b. IsOkAnd made (Made b)) (λ e. made ≡ Err e)
+      → Path HoldsAnswer (record { number = number_of (answer_means made); holds = granted_number (answer_means made) }) (holds_answer (answer_means r))
+  unfolding holds_answer number_of held_number granted_number
+  held (Ok true) (Ok n) o = rw (h true n o)
+  held (Ok false) (Ok n) o = rw (h false n o)
+  held (Ok b) (Err e) o = absurd o
+  held (Err e) made o = rw o

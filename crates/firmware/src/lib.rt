@@ -15,7 +15,7 @@ ghost use Rattle.text.specs.Lent.{LentAs};
 ghost use Rattle.firmware.specs.Answers.{load_answer, open_answer, ending_number, run_answer, share_answer, holds_answer, number_of, granted_number, total_of, total_answer};
 
 use board::{Refusal, Table};
-use files::accepted::is_table;
+use files::accepted::Accepted;
 use files::load::load;
 use holding::yes_or_no;
 use opening::open;
@@ -164,26 +164,16 @@ pub extern "C" fn vilthomm_share(table: Table, search: Search, line: usize) -> S
 pub extern "C" fn vilthomm_yes_or_no(table: Table, state: &[u8], atom: u8) -> HoldsAnswer
     ensures { result ≡ holds_answer (yes_or_no table state.now atom) }
 {
-    match yes_or_no(&table, state, atom) {
-        Ok(holds) => HoldsAnswer {
-            number: 0,
-            holds: u64::from(holds),
-        },
-        Err(refusal) => HoldsAnswer {
-            number: refusal.number(),
-            holds: 0,
-        },
-    }
+    let (number, holds) = number_and_value(yes_or_no(&table, state, atom).map(u64::from));
+    HoldsAnswer { number, holds }
 }
 
 // W of the table, where a file loads to it.
 fn total(table: &Table) -> Result<u64, Refusal>
     ensures { answer_means result ≡ total_of table.now }
 {
-    if !is_table(table) {
-        return Err(Refusal::Table);
-    }
-    Ok(table.whole_weight())
+    let accepted = Accepted::try_from(table)?;
+    Ok(accepted.table.whole_weight())
 }
 
 // W of the table: what the weights of all its board states add up to.

@@ -4,17 +4,17 @@
 // The counts of basic steps below are for r rules, n hypotheses and a state of d atoms.
 #![tactic(auto)]
 
-ghost use Rattle.std.specs.Prelude.{◌≡◌, [], ◌<◌, ◌≤◌};
+ghost use Rattle.std.specs.Prelude.{◌≡◌, ◌<◌};
 ghost use Rattle.board.specs.Sizes.{most_atoms};
 ghost use Rattle.board.specs.Answers.{answer_means};
 ghost use Rattle.board.specs.Board.{declaration, declarations, is_atom_of, is_state_of};
 ghost use Rattle.board.specs.EntryPoints.{yes_or_no};
-ghost use Rattle.board.specs.Table.{rule_in, hypotheses_in};
-ghost use Rattle.board.specs.Holds.{rule_holds};
-ghost use Rattle.holding.specs.Private.Remembered.{hypotheses_alone, lent_holds, SoundRules, Remembered};
+ghost use Rattle.board.specs.Table.{rule_in, board_of};
+ghost use Rattle.board.specs.Holds.{rule_holds, holds, in_state};
+ghost use Rattle.holding.specs.Private.Remembered.{lent_holds, SoundRules, Remembered};
 
 use board::{Refusal, Table};
-use files::accepted::is_table;
+use files::accepted::Accepted;
 
 // What is asked of a table and a state, and what was found of each atom so far; an atom that was not asked yet has nothing. The table's rules are sound,
 // and what was found is right.
@@ -79,13 +79,12 @@ impl Asking<'_> {
 }
 
 // Whether the atom holds in the state, by the rules of the table: at most some (a + 1) * (5 d + 5 r + 17) + 120 r + 130 steps.
-fn holds_in(t: &Table, state: &[u8], a: u8) -> bool
-    requires sound_rules { SoundRules t.now.head t.now.body t.now.rules }
-    requires a_lt_most_atoms { a < most_atoms }
-    ensures { result ≡ lent_holds t.now.head t.now.body t.now.rules state.now a }
+fn holds_in(accepted: Accepted<'_>, state: &[u8], a: u8) -> bool
+    requires { a < most_atoms }
+    ensures { result ≡ holds (in_state state.now) (board_of accepted.entry.table.now) a }
 {
     let mut asking = Asking {
-        table: t,
+        table: accepted.table,
         state,
         known: [None; 128],
     };
@@ -93,19 +92,22 @@ fn holds_in(t: &Table, state: &[u8], a: u8) -> bool
 }
 
 // Whether some hypothesis of declaration `d` has the atom: at most some 7 n + 3 steps.
-fn is_choice(t: &Table, d: usize, a: u8) -> bool
-    requires { t.now.hypotheses ≤ most_atoms }
-    ensures { result ≡ is_atom_of (declaration (hypotheses_in t.now.declaration t.now.atom [] t.now.hypotheses) d) a }
+fn is_choice(accepted: Accepted<'_>, d: usize, a: u8) -> bool
+    ensures { result ≡ is_atom_of (declaration (board_of accepted.entry.table.now).hypotheses d) a }
 {
+    let t = accepted.table;
     (0..t.hypotheses).any(|k| usize::from(t.declaration[k]) == d && t.atom[k] == a)
 }
 
 // Whether the state is one choice per declaration, in declaration order: at most some d * (7 n + 12) + 5 steps.
-fn is_state(t: &Table, state: &[u8]) -> bool
-    requires { t.now.hypotheses ≤ most_atoms }
-    ensures { result ≡ is_state_of (declarations (hypotheses_alone (hypotheses_in t.now.declaration t.now.atom [] t.now.hypotheses))) state.now }
+fn is_state(accepted: Accepted<'_>, state: &[u8]) -> bool
+    ensures { result ≡ is_state_of (declarations (board_of accepted.entry.table.now)) state.now }
 {
-    state.len() == t.declarations() && state.iter().enumerate().all(|(d, a)| is_choice(t, d, *a))
+    state.len() == accepted.table.declarations()
+        && state
+            .iter()
+            .enumerate()
+            .all(|(d, a)| is_choice(accepted, d, *a))
 }
 
 // Does the atom hold in the board state, a choice of each declaration handed in as atoms in declaration order? Refuses with 20 a table that no file
@@ -115,14 +117,12 @@ fn is_state(t: &Table, state: &[u8]) -> bool
 pub fn yes_or_no(t: &Table, state: &[u8], atom: u8) -> Result<bool, Refusal>
     ensures { answer_means result ≡ yes_or_no t.now state.now atom }
 {
-    if !is_table(t) {
-        return Err(Refusal::Table);
-    }
-    if !is_state(t, state) {
+    let accepted = Accepted::try_from(t)?;
+    if !is_state(accepted, state) {
         return Err(Refusal::BoardState);
     }
     if t.atoms <= usize::from(atom) {
         return Err(Refusal::AskedAtom);
     }
-    Ok(holds_in(t, state, atom))
+    Ok(holds_in(accepted, state, atom))
 }

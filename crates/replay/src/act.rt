@@ -1,7 +1,7 @@
 // The acts of an item: what each does to the table and to the search, and what it prints.
 use crate::container::Reader;
 use crate::field::Field;
-use crate::print::{print_opened, print_ran, print_share};
+use crate::print::{print_answer, print_opened, print_ran};
 use crate::state::print_search;
 use crate::truth::print_true;
 use board::Table;
@@ -27,10 +27,12 @@ enum Act<'a> {
 
 // The next field, index and value.
 fn next_field(script: &mut Reader<'_>) -> Field {
+    let (number, index) = script.place();
+    let value = u64::from_le_bytes(script.next());
     Field {
-        number: script.byte(),
-        index: usize::from(u16::from_le_bytes(script.next())),
-        value: u64::from_le_bytes(script.next()),
+        number,
+        index,
+        value,
     }
 }
 
@@ -73,7 +75,11 @@ impl<'a> Held<'a> {
                 print_ran(out, run(&self.table, &mut self.search, allowance))?;
                 print_search(out, &self.search)
             }
-            Act::Share(line) => print_share(out, share(&self.table, &self.search, line as usize)),
+            Act::Share(line) => print_answer(
+                out,
+                "share ",
+                share(&self.table, &self.search, line as usize),
+            ),
             Act::SetInSearch(field) => {
                 field.set_in_search(&mut self.search);
                 Ok(())

@@ -37,6 +37,12 @@ impl<'a> Reader<'a> {
         u8::from_le_bytes(self.next())
     }
 
+    // The number of a field in one byte, and the index of an element in two.
+    pub(crate) fn place(&mut self) -> (u8, usize) {
+        let number = self.byte();
+        (number, usize::from(u16::from_le_bytes(self.next())))
+    }
+
     // The bytes that follow their count in two bytes.
     pub(crate) fn part(&mut self) -> &'a [u8] {
         let n = usize::from(u16::from_le_bytes(self.next()));

@@ -2,7 +2,7 @@
 use crate::act::acts;
 use crate::container::Reader;
 use crate::field::Field;
-use crate::print::{print_accepted, print_loaded, print_opened, print_ran, print_read, print_told};
+use crate::print::{print_answer, print_loaded, print_opened, print_ran, print_read};
 use crate::state::print_search;
 use board::Table;
 use bounds::drive;
@@ -25,10 +25,11 @@ pub(crate) fn board_item<W: Write>(
     out: &mut W,
     item: &mut Reader<'_>,
 ) -> io::Result<()> {
-    print_accepted(out, load(item.part()).map(|t| t.whole_weight()))
+    let whole = load(item.part()).map(|t| t.whole_weight());
+    print_loaded(out, "accepted ", whole)
 }
 
-// Asks an atom in a board state.
+// Asks an atom in a board state, and prints `yes`, `no` or `refused N`.
 pub(crate) fn state_item<W: Write>(
     _alloc: Global,
     out: &mut W,
@@ -36,7 +37,8 @@ pub(crate) fn state_item<W: Write>(
 ) -> io::Result<()> {
     let table = table_of(item.part());
     let state = item.atoms();
-    print_told(out, yes_or_no(&table, state, item.byte()))
+    let told = yes_or_no(&table, state, item.byte());
+    print_answer(out, "", told.map(|yes| if yes { "yes" } else { "no" }))
 }
 
 // Reads the record at a place.
@@ -59,10 +61,12 @@ pub(crate) fn table_item<W: Write>(
     item: &mut Reader<'_>,
 ) -> io::Result<()> {
     let mut table = table_of(item.part());
+    let (number, index) = item.place();
+    let value = u64::from(u32::from_le_bytes(item.next()));
     let field = Field {
-        number: item.byte(),
-        index: usize::from(u16::from_le_bytes(item.next())),
-        value: u64::from(u32::from_le_bytes(item.next())),
+        number,
+        index,
+        value,
     };
     field.set_in_table(&mut table);
     if is_table(&table) {
@@ -79,7 +83,7 @@ pub(crate) fn acts_item<W: Write>(
     item: &mut Reader<'_>,
 ) -> io::Result<()> {
     let loaded = load(item.part());
-    print_loaded(out, loaded.map(|_| ()))?;
+    print_loaded(out, "board", loaded.map(|_| ""))?;
     acts(alloc, out, loaded.unwrap_or(Table::zero()), item.part())
 }
 
@@ -103,7 +107,7 @@ pub(crate) fn driven_item<W: Write>(
     let n = item.byte();
     let allowances = allowances(alloc, item, n)?;
     let driven = drive(file, question, &allowances);
-    print_loaded(out, driven.loaded)?;
+    print_loaded(out, "board", driven.loaded.map(|()| ""))?;
     print_opened(out, driven.opened)?;
     match driven.after.last {
         Some(ran) => print_ran(out, ran)?,

@@ -1,6 +1,7 @@
 // The lines of each answer. A write that fails ends the printing with its error.
 use board::{Found, Record, Refusal, RefusedAt};
 use search::{Ending, Ran};
+use std::fmt::Display;
 use std::io;
 use std::io::Write;
 
@@ -14,31 +15,27 @@ fn print_refused_at<W: Write>(out: &mut W, refused: RefusedAt) -> io::Result<()>
     )
 }
 
-// Prints `board` or `refused N at P`.
-pub(crate) fn print_loaded<W: Write>(out: &mut W, loaded: Result<(), RefusedAt>) -> io::Result<()> {
-    match loaded {
-        Ok(()) => writeln!(out, "board"),
-        Err(refused) => print_refused_at(out, refused),
-    }
-}
-
-// Prints `accepted W` or `refused N at P`.
-pub(crate) fn print_accepted<W: Write>(
+// Prints a label and what the file gives, or `refused N at P`.
+pub(crate) fn print_loaded<W: Write, T: Display + Drop>(
     out: &mut W,
-    whole: Result<u64, RefusedAt>,
+    label: &str,
+    loaded: Result<T, RefusedAt>,
 ) -> io::Result<()> {
-    match whole {
-        Ok(whole) => writeln!(out, "accepted {whole}"),
+    match loaded {
+        Ok(given) => writeln!(out, "{label}{given}"),
         Err(refused) => print_refused_at(out, refused),
     }
 }
 
-// Prints `yes`, `no` or `refused N`.
-pub(crate) fn print_told<W: Write>(out: &mut W, told: Result<bool, Refusal>) -> io::Result<()> {
-    match told {
-        Ok(true) => writeln!(out, "yes"),
-        Ok(false) => writeln!(out, "no"),
-        Err(refusal) => writeln!(out, "refused {}", refusal.number()),
+// Prints a label, and what is answered or `refused N`.
+pub(crate) fn print_answer<W: Write, T: Display + Drop>(
+    out: &mut W,
+    label: &str,
+    answer: Result<T, Refusal>,
+) -> io::Result<()> {
+    match answer {
+        Ok(given) => writeln!(out, "{label}{given}"),
+        Err(refusal) => writeln!(out, "{label}refused {}", refusal.number()),
     }
 }
 
@@ -64,14 +61,6 @@ pub(crate) fn print_ran<W: Write>(out: &mut W, ran: Ran) -> io::Result<()> {
     )
 }
 
-// Prints `share N` or `share refused N`.
-pub(crate) fn print_share<W: Write>(out: &mut W, share: Result<u64, Refusal>) -> io::Result<()> {
-    match share {
-        Ok(thousandths) => writeln!(out, "share {thousandths}"),
-        Err(refusal) => writeln!(out, "share refused {}", refusal.number()),
-    }
-}
-
 // Prints the record's kind and fields; of a rule the eight places each after a blank.
 fn print_record<W: Write>(out: &mut W, record: Record) -> io::Result<()> {
     match record {
@@ -81,7 +70,7 @@ fn print_record<W: Write>(out: &mut W, record: Record) -> io::Result<()> {
         }
         Record::Rule(head, places) => {
             write!(out, "rule {head}")?;
-            for place in places.to_le_bytes() {
+            for place in places {
                 write!(out, " {place}")?;
             }
             Ok(())

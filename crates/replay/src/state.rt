@@ -41,10 +41,8 @@ impl Sum {
 
 // Prints the atoms of a set, ascending, each after a blank.
 fn print_set<W: Write>(out: &mut W, set: Mask) -> io::Result<()> {
-    for atom in 0..128u8 {
-        if set.member(atom) {
-            write!(out, " {atom}")?;
-        }
+    for atom in set.atoms() {
+        write!(out, " {atom}")?;
     }
     Ok(())
 }

@@ -1,3 +1,4 @@
+pub mod Atoms
 pub mod Comparisons
 pub mod Dictionary
 pub mod Lists

@@ -1,28 +1,29 @@
 // The listing of document 01, "The 001 board, whole", as bytes in a lent buffer: what is printed for a board file and an input. `specs/Lent` says what becomes
 // of the buffer, `Listing` of the crate `search` which bytes are put there.
 //
-// The counts of basic steps below are beside those of loading, opening and the run. A listing of 256 lines of 32 atoms takes some 700,000.
+// The counts of basic steps below are beside those of loading, opening and the run. A listing of 256 lines of 32 atoms takes some 800,000.
 #![tactic(auto)]
 
 mod lines;
 mod put;
 
-ghost use Rattle.std.specs.Prelude.{◌≡◌, ◌++◌, ◌≤◌, T, length};
+ghost use Rattle.std.specs.Prelude.{◌≡◌, ◌++◌, ◌+◌, ◌≤◌, MatchOption, length};
 ghost use Rattle.std.proofs.Math.Option.{some};
 ghost use Rattle.board.specs.Answers.{refusal_number};
-ghost use Rattle.board.specs.Table.{board_of, is_table};
+ghost use Rattle.board.specs.Board.{Board};
+ghost use Rattle.board.specs.Table.{table_of, board_of};
 ghost use Rattle.search.specs.EntryPoints.{open_question, ending_means, run_search};
 ghost use Rattle.search.specs.Search.{bench};
 ghost use Rattle.search.specs.Listing.{bytes_of, ending_text, ends_text, ran_text, refused_text, refused_file_text, opened_text, asked_text, listing};
 ghost use Rattle.text.specs.Deciding.{file_bytes, input_bytes};
 ghost use Rattle.text.specs.Lent.{most_text, LentAs};
-ghost use Rattle.text.specs.Private.Putting.{HasRoom, PutAs};
+ghost use Rattle.text.specs.Private.Putting.{HasRoom, Puts};
 
-use board::{Refusal, RefusedAt, Table};
+use board::{Refusal, RefusedAt};
+use files::accepted::Accepted;
 use files::load::load;
-use lines::put_lines;
 use opening::open;
-use put::{put_bytes, put_ended, put_labelled};
+use put::Writer;
 use running::run;
 use search::{Ending, Ran, Search};
 
@@ -49,86 +50,107 @@ pub fn input_bytes() -> usize
     INPUT_BYTES
 }
 
-// Puts how a run ended, after a blank and before a line feed.
-fn put_ending(text: &mut [u8], at: usize, ending: Ending) -> usize
-    requires { HasRoom text.old at (bytes_of " " ++ ending_text (ending_means ending) ++ bytes_of "\n") }
-    ensures { PutAs text.old at (bytes_of " " ++ ending_text (ending_means ending) ++ bytes_of "\n") text.new result }
+// The question and the allowance that an input has: "a count byte, the atoms and a two-byte allowance, low byte first". Nothing where it is too short.
+fn question_in(input: &[u8]) -> Option<(&[u8], u16)>
+    ensures { (b : Board) → MatchOption result (asked_text bench b input.now ≡ refused_text 21)
+        (λ asked. asked_text bench b input.now ≡ opened_text bench b (open_question (table_of b) asked.0.now) asked.1) }
 {
-    match ending {
-        Ending::Done => put_bytes(text, at, b" done\n"),
-        Ending::More => put_bytes(text, at, b" more\n"),
-        Ending::Refused(refusal) => put_ended(text, at, b" ", refusal.number()),
-    }
-}
-
-// Puts the last line.
-fn put_last(text: &mut [u8], at: usize, ran: Ran) -> usize
-    requires { HasRoom text.old at (ends_text ran.low ran.high ran.steps (ending_means ran.ending)) }
-    ensures { PutAs text.old at (ends_text ran.low ran.high ran.steps (ending_means ran.ending)) text.new result }
-{
-    let first = put_labelled(text, at, b"low ", ran.low);
-    let second = put_labelled(text, first, b" high ", ran.high);
-    let third = put_labelled(text, second, b" steps ", u64::from(ran.steps));
-    put_ending(text, third, ran.ending)
-}
-
-// Puts what is printed of a refused question.
-fn put_refused(text: &mut [u8], refusal: Refusal) -> usize
-    requires { most_text ≤ length text.old }
-    ensures { PutAs text.old 0 (refused_text (refusal_number refusal)) text.new result }
-{
-    put_ended(text, 0, b"refused ", refusal.number())
-}
-
-// Puts what is printed of a refused file.
-fn put_refused_file(text: &mut [u8], refused: RefusedAt) -> usize
-    requires { HasRoom text.old 0 (refused_file_text (refusal_number refused.refusal) refused.place) }
-    ensures { PutAs text.old 0 (refused_file_text (refusal_number refused.refusal) refused.place) text.new result }
-{
-    let at = put_labelled(text, 0, b"refused ", refused.refusal.number());
-    put_ended(text, at, b" at ", refused.place as u64)
-}
-
-// Runs a search and puts what is printed of the run.
-fn put_run(text: &mut [u8], t: &Table, search: &mut Search, allowance: u16) -> usize
-    requires some_table { T (is_table t.now) }
-    requires has_room { HasRoom text.old 0 (ran_text (board_of t.now) (run_search bench t.now search.old allowance)) }
-    ensures { PutAs text.old 0 (ran_text (board_of t.now) (run_search bench t.now search.old allowance)) text.new result }
-{
-    let ran = run(t, search, allowance);
-    let lines = put_ended(text, 0, b"total ", t.whole_weight());
-    let end = put_lines(text, lines, &search.line, search.lines);
-    put_last(text, end, ran)
-}
-
-// Opens a question and puts what is printed of it.
-fn put_opened(text: &mut [u8], t: &Table, question: &[u8], allowance: u16) -> usize
-    requires some_table { T (is_table t.now) }
-    requires most_text_in_bounds { most_text ≤ length text.old }
-    ensures { PutAs text.old 0 (opened_text bench (board_of t.now) (open_question t.now question.now) allowance)
-        text.new result }
-{
-    match open(t, question) {
-        Ok(mut search) => put_run(text, t, &mut search, allowance),
-        Err(refusal) => put_refused(text, refusal),
-    }
-}
-
-// Takes the input apart and puts what is printed of it.
-fn put_asked(text: &mut [u8], t: &Table, input: &[u8]) -> usize
-    requires some_table { T (is_table t.now) }
-    requires most_text_in_bounds { most_text ≤ length text.old }
-    ensures { PutAs text.old 0 (asked_text bench (board_of t.now) input.now) text.new result }
-{
-    let Some((count, rest)) = input.split_first() else {
-        return put_refused(text, Refusal::Length);
+    let (count, rest) = input.split_first()?;
+    let (question, rest) = rest.split_at_checked(usize::from(*count))?;
+    let [low, high, ..] = rest else {
+        return None;
     };
-    let asked = usize::from(*count);
-    if rest.len() < asked + 2 {
-        return put_refused(text, Refusal::Length);
+    Some((question, u16::from_le_bytes([*low, *high])))
+}
+
+#[tactic(auto, using(crate::proofs::Laws::Putting::pieces), unfolding(search::specs::Listing::bytes_of, search::specs::Listing::refused_text, search::specs::Listing::refused_file_text))]
+impl Writer<'_> {
+    // Puts how a run ended, after a blank and before a line feed.
+    #[tactic(auto, unfolding(search::specs::Listing::bytes_of, search::specs::Listing::ending_text, search::specs::EntryPoints::ending_means))]
+    fn ending(&mut self, ending: Ending)
+        requires { HasRoom self.old (bytes_of " " ++ ending_text (ending_means ending) ++ bytes_of "\n") }
+        ensures { Puts self.old (bytes_of " " ++ ending_text (ending_means ending) ++ bytes_of "\n") self.new }
+    {
+        match ending {
+            Ending::Done => self.bytes(b" done\n"),
+            Ending::More => self.bytes(b" more\n"),
+            Ending::Refused(refusal) => self.ended(b" ", refusal.number()),
+        }
     }
-    let allowance = u16::from_le_bytes([rest[asked], rest[asked + 1]]);
-    put_opened(text, t, &rest[..asked], allowance)
+
+    // Puts the last line.
+    fn last(&mut self, ran: Ran)
+        requires { HasRoom self.old (ends_text ran.low ran.high ran.steps (ending_means ran.ending)) }
+        ensures { Puts self.old (ends_text ran.low ran.high ran.steps (ending_means ran.ending)) self.new }
+    {
+        self.labelled(b"low ", ran.low);
+        self.labelled(b" high ", ran.high);
+        self.labelled(b" steps ", u64::from(ran.steps));
+        self.ending(ran.ending);
+    }
+
+    // Puts what is printed of a refused question.
+    fn refused(&mut self, refusal: Refusal)
+        requires { HasRoom self.old (refused_text (refusal_number refusal)) }
+        ensures { Puts self.old (refused_text (refusal_number refusal)) self.new }
+    {
+        self.ended(b"refused ", refusal.number());
+    }
+
+    // Puts what is printed of a refused file.
+    fn refused_file(&mut self, refused: RefusedAt)
+        requires { HasRoom self.old (refused_file_text (refusal_number refused.refusal) refused.place) }
+        ensures { Puts self.old (refused_file_text (refusal_number refused.refusal) refused.place) self.new }
+    {
+        self.labelled(b"refused ", refused.refusal.number());
+        self.ended(b" at ", refused.place as u64);
+    }
+
+    // Runs a search and puts what is printed of the run.
+    fn ran(&mut self, accepted: Accepted<'_>, search: &mut Search, allowance: u16)
+        requires { let t = accepted.table.now in HasRoom self.old (ran_text (board_of t) (run_search bench t search.old allowance)) }
+        ensures { let t = accepted.entry.table.now in Puts self.old (ran_text (board_of t) (run_search bench t search.old allowance)) self.new }
+    {
+        let t = accepted.table;
+        let ran = run(t, search, allowance);
+        self.ended(b"total ", t.whole_weight());
+        self.lines(&search.line, search.lines);
+        self.last(ran);
+    }
+
+    // Opens a question and puts what is printed of it.
+    #[tactic(auto, using(crate::proofs::Laws::Answered::questions))]
+    fn opened(&mut self, accepted: Accepted<'_>, question: &[u8], allowance: u16)
+        requires { let t = accepted.table.now in HasRoom self.old (opened_text bench (board_of t) (open_question t question.now) allowance) }
+        ensures { let t = accepted.entry.table.now in Puts self.old (opened_text bench (board_of t) (open_question t question.now) allowance) self.new }
+    {
+        match open(accepted.table, question) {
+            Ok(mut search) => self.ran(accepted, &mut search, allowance),
+            Err(refusal) => self.refused(refusal),
+        }
+    }
+
+    // Takes the input apart and puts what is printed of it.
+    fn asked(&mut self, accepted: Accepted<'_>, input: &[u8])
+        requires { HasRoom self.old (asked_text bench (board_of accepted.table.now) input.now) }
+        ensures { Puts self.old (asked_text bench (board_of accepted.entry.table.now) input.now) self.new }
+    {
+        match question_in(input) {
+            Some((question, allowance)) => self.opened(accepted, question, allowance),
+            None => self.refused(Refusal::Length),
+        }
+    }
+
+    // Loads a file and puts what is printed of it and an input.
+    fn loaded(&mut self, file: &[u8], input: &[u8])
+        requires { self.old.at + most_text ≤ length self.old.text.now }
+        ensures { Puts self.old (listing (some file.now) input.now) self.new }
+    {
+        match load(file) {
+            Ok(t) => self.asked(Accepted { table: &t }, input),
+            Err(refused) => self.refused_file(refused),
+        }
+    }
 }
 
 // Puts the listing for a board file and an input into `text` and answers how many bytes it has. `text` has room for every listing from `TEXT_BYTES` on; with less
@@ -139,8 +161,7 @@ pub fn listing(file: &[u8], input: &[u8], text: &mut [u8]) -> usize
     if text.len() < TEXT_BYTES {
         return 0;
     }
-    match load(file) {
-        Ok(t) => put_asked(text, &t, input),
-        Err(refused) => put_refused_file(text, refused),
-    }
+    let mut writer = Writer { text, at: 0 };
+    writer.loaded(file, input);
+    writer.at
 }

@@ -1,40 +1,15 @@
 -- Laws of a file's bytes. Assumes nothing.
 pub mod Bytes
-use mathlib.Core.Path.{◌≡◌, refl, sym, ap, ap₂, ◌∙◌}
-use Prim.Native.Nat.{ℕ, zero, suc, ◌+◌, ◌/◌, ◌%◌, ◌^◌, ◌≤◌, ◌<◌}
-use native.Mathlib.Nat.{div-one, div-div-eq-div-mul, pow-zero, pow-suc}
+use mathlib.Core.Path.{◌≡◌}
+use Prim.Native.Nat.{ℕ, ◌+◌, ◌≤◌, ◌<◌}
 use native.Mathlib.Omega.{arith}
-use mathlib.Core.List.{List, ◌∷◌}
+use mathlib.Core.List.{List}
 use lib.ListN.{length, get_or}
 use mathlib.Core.Bool.{Bool, true, false, cond}
 use lib.Dec.{eqb}
 use borrow.Author.Tests.{le-leb, lt-leb}
-use Rattle.std.specs.Int.{w64, byte_at, bytes_low_first, to_le_bytes}
-use Rattle.board.specs.Sizes.{most_body}
 use Rattle.board.specs.Answers.{accepted, refused_at}
-use Rattle.board.specs.File.{body_bytes, low_bytes, known_kind, record_of, next_place, read_record}
-
--- the eight low bytes of a number are those that `to_le_bytes` gives
-pub low_bytes-le_bytes : (n : ℕ) → low_bytes most_body n ≡ to_le_bytes w64 n
-unfolding low_bytes
-low_bytes-le_bytes n = from 8 0 n (sym (whole n))
-  where
-    -- the number past no byte, and past one byte more
-    whole : (m : ℕ) → m / 256 ^ 0 ≡ m
-    whole m = rw (pow-zero 256, div-one m)
-
-    past : (i m : ℕ) → m ≡ n / 256 ^ i → m / 256 ≡ n / 256 ^ suc i
-    past i m e = rw (e, pow-suc 256 i) (div-div-eq-div-mul n (256 ^ i) 256)
-
-    -- one byte
-    byte : (i m : ℕ) → m ≡ n / 256 ^ i → m % 256 ≡ byte_at i n
-    byte zero m e = ap (λ (q : ℕ). q % 256) (e ∙ whole n)
-    byte (suc i) m e = ap (λ (q : ℕ). q % 256) e
-
-    -- k bytes from byte i on
-    from : (k i m : ℕ) → m ≡ n / 256 ^ i → low_bytes k m ≡ bytes_low_first i k n
-    from zero i m e = refl
-    from (suc k) i m e = ap₂ ◌∷◌ (byte i m e) (from k (suc i) (m / 256) (past i m e))
+use Rattle.board.specs.File.{body_bytes, known_kind, record_of, next_place, read_record}
 
 -- ---- the body's length and the record, by the kind
 

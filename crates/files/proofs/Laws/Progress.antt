@@ -1,16 +1,16 @@
--- How far the loader has come, for its proof: the board read so far stands in the table, what is known of its hypotheses is, and what is left to load
+-- How far the loader has come, for its proof: the board read so far stands in the table, what is known of it is, and what is left to load
 -- is what `load_from` gives from the next place on. Each record that passes leads to more of it. Assumes nothing.
 use mathlib.Core.Path.{◌≡◌, refl, sym, ap, ◌∙◌}
 use mathlib.Core.Logic.{inl, inr}
 use Prim.Native.Nat.{ℕ, zero, suc, pred, ◌+◌, ◌≤◌, ◌<◌}
 use native.Mathlib.Omega.{arith}
 use mathlib.Core.Bool.{Bool, true, false, cond, true≢false}
-use mathlib.Core.List.{List, [], flatten}
+use mathlib.Core.List.{List, flatten}
 use lib.Dec.{T, ltb}
 use lib.Pow.{are_bytes}
 use lib.ListN.{length}
 use Rattle.sets.specs.Lists.{pad}
-use Rattle.board.specs.Sizes.{most_atoms, most_hypotheses, most_w}
+use Rattle.board.specs.Sizes.{most_atoms, most_hypotheses, most_rules, most_w}
 use Rattle.board.specs.Answers.{refused_at}
 use Rattle.board.specs.Board.{Board, declarations_in, W}
 use Rattle.board.specs.File.{Record, count, hypothesis, rule, finish, Found, next_place}
@@ -20,10 +20,11 @@ use Rattle.board.proofs.Laws.Load.Passes.{so_far}
 use Rattle.files.specs.Private.Seen.{SeenOf}
 use Rattle.files.specs.Private.Taking.{passed_record, ending}
 use Rattle.board.proofs.Laws.Load.Hypotheses.{hypotheses_sizes}
-use Rattle.board.proofs.Laws.Load.Loaded.{Begun, begun_hypotheses, begun_atoms, taken_in}
+use Rattle.board.proofs.Laws.Load.Loaded.{Begun, begun_hypotheses, begun_rules, begun_atoms, taken_in}
 use Rattle.files.proofs.Laws.Passed.{Passes, passed-refused}
 use Rattle.board.proofs.Laws.Load.Reading.{read-accepted}
 use Rattle.board.proofs.Laws.Load.Room.{hypotheses-length}
+use Rattle.board.proofs.Laws.Load.Rules.{rules-length}
 use Rattle.board.proofs.Laws.Load.Steps.{load_failing, load-finish, load-next}
 use Rattle.board.specs.declared.Table.{Table}
 use Rattle.files.specs.declared.checks.Seen.{Seen}
@@ -37,10 +38,10 @@ pub record Progress (file : List ℕ) (t : Table) (seen : Seen) (at : ℕ) : Typ
   pub rest : load file ≡ load_from fuel file at board
   pub begun : Begun board
   pub table : t ≡ table_of board
-  pub known : SeenOf board.hypotheses seen
+  pub known : SeenOf board seen
 
 -- before the first record
-pub progress_start : (file : List ℕ) (s : Seen) → SeenOf [] s → Progress file zero_table s 0
+pub progress_start : (file : List ℕ) (s : Seen) → SeenOf no_board s → Progress file zero_table s 0
 unfolding load no_board zero_table table_of pad flatten
 progress_start file s k =
     record {
@@ -103,7 +104,7 @@ module _ {file : List ℕ} {t : Table} {seen : Seen} {at : ℕ} (p : Progress fi
       next-sound = taken_in file bytes at p.board p.begun q.placed r q.read (q.checks g)
 
       -- any other record is taken
-      pub goes_on : (t' : Table) (seen' : Seen) → t' ≡ table_of (taking p.board r.found) → SeenOf (taking p.board r.found).hypotheses seen'
+      pub goes_on : (t' : Table) (seen' : Seen) → t' ≡ table_of (taking p.board r.found) → SeenOf (taking p.board r.found) seen'
           → Progress file t' seen' r.next
       goes_on t' seen' same k = more' p.fuel p.enough p.rest
         where
@@ -139,3 +140,7 @@ module _ {file : List ℕ} {t : Table} {seen : Seen} {at : ℕ} (p : Progress fi
   room-last =
       let hs = p.board.hypotheses in
       omega (arith, p.known.last, (hypotheses_sizes p.board.atoms hs (begun_hypotheses p.board p.begun) (pred (declarations_in hs))).1)
+
+  -- the rules do not overflow their count
+  pub room-rules : seen.rules ≤ most_rules
+  room-rules = omega (arith, p.known.rules, rules-length p.board.atoms p.board.hypotheses p.board.rules (begun_rules p.board p.begun))

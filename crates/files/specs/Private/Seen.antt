@@ -1,24 +1,21 @@
--- What the checks of a record know of the hypotheses before it, for the contracts of private functions. Assumes nothing.
+-- What the checks of a record know of the records before it, for the contracts of private functions. Assumes nothing.
 use Rattle.std.specs.Prelude.{◌≡◌, ℕ, pred, true, false, List, [], length, Option, Some, None}
 use Rattle.sets.specs.Sets.{set_of}
 use Rattle.sets.specs.Masks.{mask_means}
-use Rattle.sets.specs.declared.mask.Mask.{Mask}
-use Rattle.board.specs.Board.{Hypothesis, declarations_in, declaration}
+use Rattle.board.specs.Board.{Board, Hypothesis, declarations_in, declaration}
 use Rattle.board.specs.Holds.{atoms_of}
 use Rattle.files.specs.declared.checks.Seen.{Seen}
 use Rattle.board.specs.Private.Passes.{hypotheses_pass}
 
--- the set of the hypotheses' atoms
-abbrev pub AtomsOf : List Hypothesis → Mask → Type 0
-AtomsOf hs m = mask_means m ≡ set_of (atoms_of hs)
+-- how many atoms and rules the board has, how many declarations, how many of its hypotheses are of the last one, and the set of the hypotheses' atoms
+pub record SeenOf (b : Board) (s : Seen) : Type 0 where
+  pub atoms : s.atoms ≡ b.atoms
+  pub rules : s.rules ≡ length b.rules
+  pub declarations : s.declarations ≡ declarations_in b.hypotheses
+  pub last : s.last ≡ length (declaration b.hypotheses (pred (declarations_in b.hypotheses)))
+  pub hypotheses : mask_means s.hypotheses ≡ set_of (atoms_of b.hypotheses)
 
--- how many declarations the hypotheses have, how many of them are of the last one, and their atoms
-pub record SeenOf (hs : List Hypothesis) (s : Seen) : Type 0 where
-  pub declarations : s.declarations ≡ declarations_in hs
-  pub last : s.last ≡ length (declaration hs (pred (declarations_in hs)))
-  pub atoms : AtomsOf hs s.atoms
-
--- what is known of the hypotheses if they pass one after another
+-- what is known of so many atoms and the hypotheses if these pass one after another
 abbrev pub Passing : ℕ → List Hypothesis → Option Seen → Type 0
-Passing atoms hs (Some s) = (hypotheses_pass atoms [] hs ≡ true) × SeenOf hs s
+Passing atoms hs (Some s) = (hypotheses_pass atoms [] hs ≡ true) × SeenOf (record { atoms = atoms; hypotheses = hs; rules = [] }) s
 Passing atoms hs None = hypotheses_pass atoms [] hs ≡ false

@@ -31,7 +31,7 @@ checked_record at b (accepted r) = elim (field_refusal b r.found) [ zero ↦ acc
 unfoldable pub passed_record : List ℕ → ℕ → Board → FileAnswer Found
 passed_record file at b = elim (misplaced_at file at b) [ true ↦ refused_at 3 at | false ↦ checked_record at b (read_record file at) ]
 
--- what is known of a board's hypotheses becomes what is known of them with one record more that passes
+-- what is known of a board becomes what is known of it with one record more that passes
 abbrev pub SeenAfter : Seen → Record → Seen → Type 0
 SeenAfter s r u =
-    (b : Board) → b.atoms ≤ most_atoms → SeenOf b.hypotheses s → first_failing (field_checks b r) ≡ 0 → SeenOf (taking b r).hypotheses u
+    (b : Board) → b.atoms ≤ most_atoms → SeenOf b s → first_failing (field_checks b r) ≡ 0 → SeenOf (taking b r) u

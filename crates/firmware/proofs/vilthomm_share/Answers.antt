@@ -1,6 +1,6 @@
 -- `vilthomm_share` meets its contract: the share's answer as numbers. Assumes nothing.
 use mathlib.Core.Path.{ap}
-use Rattle.firmware.specs.Answers.{number_of, granted_number, share_answer}
+use Rattle.firmware.specs.Answers.{share_answer}
 use Rattle.firmware.proofs.vilthomm_share.Goals as goal
 
 pub returns : goal.returns

@@ -1,6 +1,6 @@
 -- `vilthomm_total` meets its contract: the answer of `total` as numbers. Assumes nothing.
 use mathlib.Core.Path.{ap}
-use Rattle.firmware.specs.Answers.{number_of, granted_number, total_answer}
+use Rattle.firmware.specs.Answers.{total_answer}
 use Rattle.firmware.proofs.vilthomm_total.Goals as goal
 
 pub returns : goal.returns

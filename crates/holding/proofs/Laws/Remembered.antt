@@ -5,17 +5,17 @@ use Rattle.std.specs.Option.{ForSome}
 use Prim.Native.Nat.{ℕ, ◌+◌, ◌*◌, ◌≤◌, ◌<◌}
 use native.Mathlib.Omega.{arith}
 use native.Mathlib.Decide.{dec_lt, ℕ_discrete}
-use mathlib.Core.Path.{◌≡◌, refl, sym, ap, ◌∙◌}
+use mathlib.Core.Path.{◌≡◌, sym, ap, ◌∙◌}
 use mathlib.Core.Bool.{Bool, true, false, ◌||◌, or-true}
-use mathlib.Core.List.{List, [], ◌∷◌, Memᴰ}
+use mathlib.Core.List.{List, Memᴰ}
 use lib.Dec.{T_not, not_T, eqb, eqb→eq, eqb_refl, T}
 use lib.ListN.{length, get_or, drop, set, replicate, length-take, length-drop, length-replicate, get_or-replicate, get_or-eq_default}
 use lib.Seq.{get_or-take, get_or-drop, get_or-set_same, get_or-set_other, set_out}
 use Rattle.sets.specs.Lists.{any, among, below}
-use Rattle.sets.proofs.Laws.Lists.{all_at, all_of, any-map, keep-of, keep_at}
+use Rattle.sets.proofs.Laws.Lists.{all_at, all_of, any-map, keep-of, keep_at, list_any-any}
 use Rattle.sets.proofs.Laws.Lists.Indices.{at_index, index_of, any_below, none_below}
 use Rattle.sets.proofs.Laws.Tests.{T_of_true, true_of_T, false_of_T, and_both, and_left, and_right}
-use Rattle.board.specs.Sizes.{most_body, empty_place, most_rules}
+use Rattle.board.specs.Sizes.{most_atoms, most_body, empty_place, most_rules}
 use Rattle.board.specs.Load.{filled}
 use Rattle.board.specs.Table.{places_in, rule_in, rules_in, board_of, is_table}
 use Rattle.board.proofs.Laws.Lent.{rules_in-of}
@@ -89,9 +89,8 @@ module _ (holding : ℕ → Bool) (head body : List ℕ) (i : ℕ) where
 
 -- whether a slice contains an atom is whether the atom is chosen in that state
 pub contains-in_state : (state : List ℕ) (a : ℕ) → list_any (λ y. eqb y a) state ≡ in_state state a
-unfolding in_state among any
-contains-in_state [] a = refl
-contains-in_state (x ∷ xs) a = ap (◌||◌ (eqb x a)) (contains-in_state xs a)
+unfolding in_state among
+contains-in_state state a = list_any-any _ state
 
 -- rule i is one of a's rules and holds
 abbrev pub lent_gives : List ℕ → List ℕ → ℕ → List ℕ → ℕ → ℕ → Bool
@@ -136,12 +135,16 @@ module _ (head body : List ℕ) (n : ℕ) (sound : SoundRules head body n) (i : 
 
 -- ---- a table that some file loads to
 
--- the rules of a table that passes are sound
+-- its counts are within their limits
+pub table-sizes : (t : Table) → T (is_table t) → (1 ≤ t.atoms) × (t.atoms ≤ most_atoms) × (t.hypotheses ≤ most_atoms) × (t.rules ≤ most_rules)
+table-sizes t s = sizes_parts t (is_table_stands t s).sizes
+
+-- its rules are sound
 pub table-sound : (t : Table) → T (is_table t) → length t.body ≡ most_body * most_rules → SoundRules t.head t.body t.rules
 unfolding board_of
 table-sound t s long =
     let b = is_table-board t s in
-    let size = sizes_parts t (is_table_stands t s).sizes in
+    let size = table-sizes t s in
     record {
       few = omega (arith, size);
       room = omega (arith, size);

@@ -1,21 +1,17 @@
 -- What holds by the rules alone that the code lends, and the answers that it has found so far: for the contracts of private functions.
--- `holds` asks a board for its rules alone, and `declarations` for its hypotheses alone, so each is stated of a board that has no more.
+-- `holds` asks a board for its rules alone, so it is stated of a board that has no more.
 -- Assumes nothing.
 use Rattle.std.specs.Prelude.{◌≡◌, Bool, ℕ, ◌*◌, ◌≤◌, ◌<◌, length, get_or, Option, None}
 use Rattle.std.specs.Option.{ForSome}
 use mathlib.Core.List.{List, [], Memᴰ}
 use Rattle.board.specs.Sizes.{most_atoms, most_rules, most_body}
-use Rattle.board.specs.Board.{Board, Rule, Hypothesis}
+use Rattle.board.specs.Board.{Board, Rule}
 use Rattle.board.specs.Holds.{holds, in_state}
 use Rattle.board.specs.Table.{rules_in}
 
 -- a board that has these rules and nothing else
 abbrev pub rules_alone : List Rule → Board
 rules_alone rules = record { atoms = 0; hypotheses = []; rules = rules }
-
--- a board that has these hypotheses and nothing else
-abbrev pub hypotheses_alone : List Hypothesis → Board
-hypotheses_alone hypotheses = record { atoms = 0; hypotheses = hypotheses; rules = [] }
 
 -- what holds in a state by the first n of the rules that are lent
 abbrev pub lent_holds : List ℕ → List ℕ → ℕ → List ℕ → ℕ → Bool

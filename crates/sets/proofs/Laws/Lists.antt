@@ -16,6 +16,7 @@ use Prim.Native.Nat.{ℕ, ◌≤◌}
 use native.Mathlib.Omega.{arith}
 use lib.Dec.{T, eqb, eqb→eq, eqb_refl}
 use lib.ListN.{length}
+use Rattle.std.specs.List.{list_any, list_all}
 use Rattle.sets.specs.Lists.{any, all, keep, is_empty, among, same_numbers}
 use Rattle.sets.proofs.Laws.Tests.{T_of_true, true_of_T, false_of_T, and_both, and_left, and_right, or_left, or_right, or_cases, or_false_left, or_false_right}
 
@@ -193,6 +194,21 @@ module _ {ℓ} {A : Type ℓ} where
   short_equal (z ∷ []) l (Memᴰ.head e) (Memᴰ.tail n) = absurd (Memᴰ.not-nil n)
   short_equal (z ∷ []) l (Memᴰ.tail m) n = absurd (Memᴰ.not-nil m)
   short_equal (z ∷ w ∷ xs) l m n = absurd (omega arith)
+
+-- ---- the library's tests of a list
+
+module _ {X : Type 0} (p : X → Bool) where
+  -- some element passes the one exactly if some passes the other
+  pub list_any-any : (xs : List X) → list_any p xs ≡ any p xs
+  unfolding any
+  list_any-any [] = refl
+  list_any-any (x ∷ xs) = ap (◌||◌ (p x)) (list_any-any xs)
+
+  -- .. and all
+  pub list_all-all : (xs : List X) → list_all p xs ≡ all p xs
+  unfolding all
+  list_all-all [] = refl
+  list_all-all (x ∷ xs) = ap (◌&&◌ (p x)) (list_all-all xs)
 
 -- ---- mapped lists
 

@@ -6,6 +6,7 @@ use native.Mathlib.Nat.{one-mul, mod-eq_of_lt}
 use native.Mathlib.Omega.{arith}
 use mathlib.Core.Path.{◌≡◌, refl, sym, ap, ◌∙◌}
 use mathlib.Core.Bool.{Bool, true, false, not, ◌&&◌, and_comm, cond}
+use mathlib.Core.List.{List, [], ◌∷◌, ◌++◌}
 use lib.Arith.{digits_lt}
 use lib.Bits.{bit_or, bit_and, bit_xor, or_block, or_lt, or_zero_r, and_block, and_mask, and_le_l, and_le_r, xor_add_and, xor_self}
 use lib.Dec.{T, eqb, eqb→eq, eqb_refl, ltb, lt→ltb}
@@ -15,14 +16,17 @@ use Rattle.std.proofs.Common.{Ordering, Less, Equal, Greater}
 use Rattle.std.specs.Ordering.{is_lt, nat_cmp, is_some_and, partial_ordering_then, partial_lt}
 use Rattle.std.specs.Prelude.{Some}
 use Rattle.sets.specs.Masks.{mask_means, with_atom}
-use Rattle.sets.specs.Sets.{most_atoms, member, union, with, without, subset, meets, all_below, words}
+use Rattle.sets.specs.Lists.{keep}
+use Rattle.sets.specs.Sets.{most_atoms, member, union, with, without, set_of, subset, meets, all_below, words}
 use Rattle.sets.specs.contracts.mask.MaskPartialEq.TheImpl as mask_equal
 use Rattle.sets.specs.contracts.mask.MaskPartialOrd.TheImpl as mask_order
 use Rattle.sets.specs.declared.mask.Mask.{Mask}
 use Rattle.sets.proofs.Laws.Sets.Bounds.{without-member}
 use Rattle.sets.proofs.Laws.Sets.Digits.{member-and, member-low, member-high, member_full, member_power, member-without, set_ext, all_below_at}
 use Rattle.sets.proofs.Laws.Sets.Meets.{meets-and}
+use Rattle.sets.proofs.Laws.Lists.Ends.{keep_snoc_true, keep_snoc_false}
 use Rattle.sets.proofs.Laws.Lists.Padding.{or-zero}
+use Rattle.sets.proofs.Laws.Sets.{set_of_snoc}
 use Rattle.sets.proofs.Laws.Tests.{T_ext, T_of_true, true_of_T, false_of_T, eqb_ext, ltb_ext, and_cong_right}
 
 -- ---- what a mask means
@@ -193,6 +197,19 @@ with_atom-atom a s l = rw (lt-ltb a most_atoms l)
 pub with_atom_past : (a s : ℕ) → most_atoms ≤ a → with_atom a s ≡ s
 unfolding with_atom
 with_atom_past a s h = rw (le-ltb a most_atoms h)
+
+-- the set of the atoms among numbers, with one number more at the end
+pub set_of-keep_snoc : (a : ℕ) (xs : List ℕ)
+    → set_of (keep (λ x. ltb x most_atoms) (xs ++ (a ∷ []))) ≡ with_atom a (set_of (keep (λ x. ltb x most_atoms) xs))
+unfolding with_atom
+set_of-keep_snoc a xs = by (ltb a most_atoms) refl
+  where
+    atoms : List ℕ
+    atoms = keep (λ x. ltb x most_atoms) xs
+
+    by : (t : Bool) → ltb a most_atoms ≡ t → set_of (keep (λ x. ltb x most_atoms) (xs ++ (a ∷ []))) ≡ cond t (with a (set_of atoms)) (set_of atoms)
+    by true e = ap set_of (keep_snoc_true _ xs a e) ∙ set_of_snoc a atoms
+    by false e = ap set_of (keep_snoc_false _ xs a e)
 
 -- ---- masks
 

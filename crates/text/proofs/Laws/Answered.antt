@@ -1,5 +1,6 @@
--- What is printed of a question and of an input, from what loading and opening handed back; and that there is room for it. Assumes nothing.
-use Prim.Native.Nat.{ℕ, suc, ◌+◌, ◌-◌, ◌*◌, ◌≤◌, ◌<◌}
+-- What is printed of a question and of an input, from what loading and opening handed back. Assumes nothing.
+use Prim.Native.Nat.{ℕ, ◌+◌, ◌*◌, ◌≤◌, ◌<◌}
+use native.Mathlib.Nat.{add-zero}
 use native.Mathlib.Omega.{arith}
 use mathlib.Core.Path.{◌≡◌, refl, sym, ap, ap₂, ◌∙◌}
 use mathlib.Core.List.{List, [], ◌∷◌}
@@ -7,6 +8,7 @@ use mathlib.Core.Option.{some}
 use lib.Dec.{T}
 use lib.ListN.{length, get_or, take, drop}
 use lib.Pow.{are_bytes}
+use Rattle.std.proofs.lemmas.List.{get_or-drop}
 use borrow.Author.Tests.{lt-ltb, le-ltb}
 use Rattle.board.specs.Answers.{granted, refused, accepted, refused_at}
 use Rattle.board.specs.Board.{Board}
@@ -14,16 +16,13 @@ use Rattle.board.specs.Load.{load}
 use Rattle.board.specs.Table.{table_of, board_of, is_table}
 use Rattle.board.specs.EntryPoints.{table_answer}
 use Rattle.board.specs.declared.Table.{Table}
-use Rattle.board.proofs.Promise.{Accepted, is_table-board, is_table-stored, accepted-is_table, board_of-table_of, accepted-of, refused_at-of, accepted_iff}
+use Rattle.board.proofs.Promise.{Accepted, is_table-stored, accepted-is_table, board_of-table_of, accepted-of, refused_at-of, accepted_iff}
 use Rattle.search.specs.Search.{Search, bench}
 use Rattle.search.specs.Store.{stored_of}
 use Rattle.search.specs.EntryPoints.{open_question, stored_answer, run_search}
 use Rattle.search.specs.declared.Search.{Search as Stored}
 use Rattle.search.specs.Listing.{ran_text, refused_text, refused_file_text, opened_text, asked_text, opened, loaded_text, listing, listing_at}
-use Rattle.search.proofs.Laws.EntryPoints.{granted-of, refused-of, opened-question}
-use Rattle.search.proofs.Laws.Store.Steps.{opening-formed}
-use Rattle.text.specs.Lent.{most_text}
-use Rattle.text.proofs.Laws.Length.{ran-length}
+use Rattle.search.proofs.Laws.EntryPoints.{granted-of, refused-of}
 
 -- ---- a question
 
@@ -51,12 +50,8 @@ module _ (t : Table) (h : T (is_table t)) (question : List ℕ) (allowance : ℕ
     unfolding opened_text
     opened-accepted = rw (runs, was.1)
 
-    -- for which there is room
-    pub opened-length : allowance ≤ 65535 → length printed ≤ most_text
-    unfolding bench
-    opened-length most =
-        let (q, below) = opened-question t question was.0 was.1 in
-        rw runs (ran-length (board_of t) (is_table-board t h) was.0 (rw q (opening-formed (board_of t) question below bench (omega arith))) allowance most)
+-- what the check needs of a question
+pub ruleset questions = (opened-accepted, opened-refused)
 
 -- ---- an input
 
@@ -73,10 +68,12 @@ module _ (b : Board) where
   asked_short count input l = rw (lt-ltb (length input) (count + 2) l)
 
   -- enough
-  pub asked-whole : (count : ℕ) (input : List ℕ) → count + 2 ≤ length input
-      → asked_text bench b (count ∷ input) ≡ opened_text bench b (open_question (table_of b) (take count input)) (get_or input count 0 + 256 * get_or input (count + 1) 0)
+  pub asked-whole : (count : ℕ) (input : List ℕ) (allowance : ℕ) → count + 2 ≤ length input
+      → allowance ≡ get_or (drop count input) 0 0 + 256 * get_or (drop count input) 1 0
+      → asked_text bench b (count ∷ input) ≡ opened_text bench b (open_question (table_of b) (take count input)) allowance
   unfolding asked_text
-  asked-whole count input l = rw (le-ltb (length input) (count + 2) l)
+  asked-whole count input allowance l e =
+      rw (le-ltb (length input) (count + 2) l, e, get_or-drop count input 0 0, get_or-drop count input 1 0, add-zero)
 
 -- ---- a file
 

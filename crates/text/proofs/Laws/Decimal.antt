@@ -9,6 +9,7 @@ use lib.Dec.{ltb}
 use lib.ListN.{length, length-append}
 use borrow.Author.Tests.{ltb-true, ltb-false, lt-ltb, le-ltb}
 use Rattle.search.specs.Listing.{decimal_of, decimal}
+use Rattle.text.proofs.Laws.Putting.{put_both}
 
 -- the digits of a number over at most d + 1 of them, by whether it has one
 digits : ℕ → ℕ → Bool → List ℕ
@@ -37,7 +38,10 @@ decimal_large n l =
     ap (digits n n) (le-ltb n 10 l)
     ∙ ap (λ (tenth : List ℕ). tenth ++ ((48 + n % 10) ∷ [])) (decimal_of_enough n (suc (n / 10)) (n / 10) (omega arith) (omega arith))
 
--- which is one digit more
+-- what the check needs where a number is put: these, and that pieces are put one after another
+pub ruleset by_digits = (decimal_small, decimal_large, put_both, length-append)
+
+-- any other number has one digit more than a tenth of it
 pub decimal-more : (n : ℕ) → 10 ≤ n → length (decimal n) ≡ length (decimal (n / 10)) + 1
 decimal-more n l = rw (decimal_large n l, length-append) refl
 

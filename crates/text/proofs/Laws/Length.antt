@@ -1,32 +1,35 @@
 -- How long a listing can be. Assumes nothing.
-use Prim.Native.Nat.{ℕ, ◌^◌, ◌≤◌, ◌<◌}
+use Prim.Native.Nat.{ℕ, suc, ◌+◌, ◌*◌, ◌^◌, ◌≤◌, ◌<◌}
 use native.Mathlib.Omega.{arith}
-use mathlib.Core.Path.{refl}
-use mathlib.Core.List.{◌++◌, Memᴰ}
-use lib.Dec.{T, lit<}
-use lib.ListN.{length, length-append}
+use mathlib.Core.Path.{◌≡◌, refl}
+use mathlib.Core.Bool.{Bool, true, false, not, ◌||◌, cond}
+use mathlib.Core.List.{List, [], ◌∷◌, ◌++◌, Memᴰ}
+use lib.Dec.{T, eqb, leb, ltb, lit<}
+use lib.ListN.{length, length-append, get_or, take}
+use Rattle.sets.specs.Lists.{any, ascending}
 use Rattle.sets.specs.Sets.{members, size}
 use Rattle.sets.proofs.Laws.Lists.Flatten.{flatten_length}
 use Rattle.sets.proofs.Laws.Sets.Members.{members-below}
-use Rattle.board.specs.Answers.{refusal_number}
+use Rattle.board.specs.Answers.{Answer, granted, refused, refusal_number}
 use Rattle.board.specs.declared.Refusal.{Refusal}
 use Rattle.board.specs.declared.Refusal.TheVariants as refusal
 use Rattle.board.specs.Board.{Board, W}
 use Rattle.board.specs.Sizes.{most_declarations, most_w}
-use Rattle.board.specs.Table.{table_of}
-use Rattle.board.proofs.Promise.{Accepted, weight_of-le-W}
+use Rattle.board.specs.Table.{table_of, board_of, is_table}
+use Rattle.board.specs.declared.Table.{Table}
+use Rattle.board.proofs.Promise.{Accepted, weight_of-le-W, board_of-table_of}
 use Rattle.search.specs.Order.{Line, finished}
-use Rattle.search.specs.Search.{Search, bench, Ending, done, more, stopped, Ran, run}
+use Rattle.search.specs.Search.{Search, bench, opening, Ending, done, more, stopped, Ran, run}
 use Rattle.search.specs.Store.{stored_of, entry_fits}
-use Rattle.search.specs.EntryPoints.{RunAnswer, run_search}
-use Rattle.search.specs.Listing.{bytes_of, decimal, line_text, ending_text, last_text, ran_text, refused_text, refused_file_text}
+use Rattle.search.specs.EntryPoints.{most_asked, open_question, RunAnswer, run_search}
+use Rattle.search.specs.Listing.{bytes_of, decimal, line_text, ending_text, last_text, ran_text, refused_text, refused_file_text, opened_text, asked_text}
 use Rattle.search.proofs.Laws.Explanations.Choices.{choice_one, choice_size}
 use Rattle.search.proofs.Laws.Ends.{low-le-W, high-le-W}
 use Rattle.search.proofs.Laws.Search.Runs.{Stops, ComesTo, run_comes, run-steps, run_stops}
 use Rattle.search.proofs.Laws.Store.{Formed, search_of-stored_of}
 use Rattle.search.proofs.Laws.Store.Fits.{entry_choice, entry-weight, fits_line}
-use Rattle.search.proofs.Laws.Store.Steps.{step-formed}
-use Rattle.search.proofs.Laws.EntryPoints.{answered, run_search-answers}
+use Rattle.search.proofs.Laws.Store.Steps.{step-formed, opening-formed}
+use Rattle.search.proofs.Laws.EntryPoints.{answered, run_search-answers, opened-question}
 use Rattle.text.specs.Lent.{most_text}
 use Rattle.text.proofs.Laws.Decimal.{decimal-length}
 
@@ -138,3 +141,44 @@ refused-length number l = simp length-append (omega (arith, decimal-length 2 num
 pub refused-file-length : (number place : ℕ) → number < 256 → place < 2 ^ 64 → length (refused_file_text number place) ≤ most_text
 unfolding refused_file_text bytes_of
 refused-file-length number place l m = simp length-append (omega (arith, decimal-length 2 number (omega arith), decimal-length 19 place (omega arith)))
+
+-- ---- a question and an input
+
+module _ (b : Board) (k : Accepted b) where
+  -- what is printed of a question, by what opening tests
+  opened-length : (question : List ℕ) (allowance : ℕ) → allowance ≤ 65535
+      → length (opened_text bench b (open_question (table_of b) question) allowance) ≤ most_text
+  unfolding open_question opened_text bench
+  opened-length question allowance most =
+      go (not (is_table t)) (eqb (length question) 0 || ltb most_asked (length question)) (any (leb t.atoms) question) (not (ascending question)) refl
+    where
+      t : Table
+      t = table_of b
+
+      s : Search
+      s = opening (board_of t) question
+
+      answer : Bool → Bool → Bool → Bool → Answer Search
+      answer p q r u = cond p (refused 20) (cond q (refused 21) (cond r (refused 22) (cond u (refused 23) (granted s))))
+
+      go : (p q r u : Bool) → open_question t question ≡ answer p q r u → length (opened_text bench b (answer p q r u) allowance) ≤ most_text
+      go true q r u e = refused-length 20 (lit< tt)
+      go false true r u e = refused-length 21 (lit< tt)
+      go false false true u e = refused-length 22 (lit< tt)
+      go false false false true e = refused-length 23 (lit< tt)
+      go false false false false e =
+          let below = rw (board_of-table_of k) at ((opened-question t question s e).1) in
+          ran-length b k s (rw (board_of-table_of k) (opening-formed b question below bench (omega arith))) allowance most
+
+  -- what is printed of an input
+  pub asked-length : (input : List ℕ) → ((i : ℕ) → get_or input i 0 < 256) → length (asked_text bench b input) ≤ most_text
+  unfolding asked_text
+  asked-length [] bytes = refused-length 21 (lit< tt)
+  asked-length (count ∷ input) bytes = go (ltb (length input) (count + 2))
+    where
+      allowance : ℕ
+      allowance = get_or input count 0 + 256 * get_or input (count + 1) 0
+
+      go : (short : Bool) → length (cond short (refused_text 21) (opened_text bench b (open_question (table_of b) (take count input)) allowance)) ≤ most_text
+      go true = refused-length 21 (lit< tt)
+      go false = opened-length (take count input) allowance (omega (arith, bytes (suc count), bytes (suc (count + 1))))

@@ -17,7 +17,6 @@ use Rattle.search.specs.Search.{Search, bench}
 use Rattle.search.specs.EntryPoints.{open_question}
 use Rattle.search.specs.Listing.{bytes_of, ran_text, refused_text, refused_file_text, opened_text, asked_text, opened, loaded_text, listing, listing_at}
 use Rattle.text.specs.Lent.{most_text, text_in, bytes_in, LentAs}
-use Rattle.text.specs.Private.Putting.{PutAs}
 
 -- too few
 pub lent_short : {text before : List ℕ} → length before < most_text → LentAs text before before 0
@@ -25,15 +24,12 @@ unfolding text_in bytes_in
 lent_short {before = before} l = let short = lt-ltb (length before) most_text l in record { bytes = rw short; count = rw short }
 
 -- enough
-pub lent-put : {text before after : List ℕ} {r : ℕ} → most_text ≤ length before → PutAs before 0 text after r → LentAs text before after r
+pub lent-put : {text before after : List ℕ} {r : ℕ} → most_text ≤ length before → r ≡ length text → take r after ≡ text → drop r after ≡ drop r before
+    → LentAs text before after r
 unfolding text_in bytes_in
-lent-put {text} {before} {after} {r} l p =
+lent-put {text} {before} {after} {r} l long front behind =
     let enough = le-ltb (length before) most_text l in
-    let long : r ≡ length text = omega arith in
-    record {
-      bytes = rw enough (sym (take-append-drop r after) ∙ rw (p.front, p.behind r (omega arith), long));
-      count = rw enough long;
-    }
+    record { bytes = rw enough (sym (take-append-drop r after) ∙ rw (front, behind, long)); count = rw enough long }
 
 -- as many bytes as were put are there
 pub lent-room : (text : List ℕ) {before after : List ℕ} {r : ℕ} → LentAs text before after r → length after ≡ length before → r ≤ length after

@@ -1,30 +1,24 @@
 -- Text put together from the left, piece by piece, in lent bytes. Assumes nothing.
-use Rattle.std.specs.Prelude.{ℕ, ◌+◌, ◌≤◌, ◌≡◌, cond, length, take, drop}
-use mathlib.Core.List.{List, [], ◌++◌, map, flatten}
-use Rattle.sets.specs.Sets.{member}
+use Rattle.std.specs.Prelude.{ℕ, ◌+◌, ◌≤◌, ◌≡◌, length, take, drop}
+use mathlib.Core.List.{List, ◌++◌, map, flatten}
 use Rattle.sets.specs.Lists.{below}
-use Rattle.search.specs.Listing.{line_text, decimal, bytes_of}
+use Rattle.search.specs.Listing.{line_text}
 use Rattle.search.specs.Layout.{line_in}
+use Rattle.text.specs.declared.put.Writer.{Writer}
 
--- there is room for a piece from place `at` on
-abbrev pub HasRoom : List ℕ → ℕ → List ℕ → Type 0
-HasRoom text at piece = at + length piece ≤ length text
+-- there is room for a piece at the place where the next one is put
+abbrev pub HasRoom : Writer → List ℕ → Type 0
+HasRoom writer piece = writer.at + length piece ≤ length writer.text.now
 
--- what putting a piece leaves, and answers: the place r after it, up to which stand the bytes before it and the piece, and from which on all is as it was
-pub record PutAs (before : List ℕ) (at : ℕ) (piece after : List ℕ) (r : ℕ) : Type 0 where
-  pub front : take r after ≡ take at before ++ piece
-  pub behind : (n : ℕ) → r ≤ n → drop n after ≡ drop n before
-  pub same : length after ≡ length before
-  pub next : r ≡ at + length piece
-
--- the texts of the numbers below n, one after another
-unfoldable pub texts_below : (ℕ → List ℕ) → ℕ → List ℕ
-texts_below text n = flatten (map text (below n))
-
--- an atom after a blank, where it is in the set
-abbrev pub atom_text : ℕ → ℕ → List ℕ
-atom_text s a = cond (member a s) (bytes_of " " ++ decimal a) []
+-- what putting a piece leaves: the same bytes are lent, and the place is the one after the piece; up to it stand the bytes before the piece and the piece, and
+-- from it on all is as it was
+pub record Puts (before : Writer) (piece : List ℕ) (after : Writer) : Type 0 where
+  pub lent : after.text.ghost_name ≡ before.text.ghost_name
+  pub next : after.at ≡ before.at + length piece
+  pub front : take after.at after.text.now ≡ take before.at before.text.now ++ piece
+  pub behind : (n : ℕ) → after.at ≤ n → drop n after.text.now ≡ drop n before.text.now
+  pub same : length after.text.now ≡ length before.text.now
 
 -- the text of the first n lines of the array
 abbrev pub lines_text : List ℕ → ℕ → List ℕ
-lines_text line n = texts_below (λ i. line_text (line_in line i)) n
+lines_text line n = flatten (map (λ i. line_text (line_in line i)) (below n))

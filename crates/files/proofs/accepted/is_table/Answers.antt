@@ -16,7 +16,7 @@ use Rattle.board.specs.Private.Fields.{sizes_stand}
 use Rattle.board.proofs.Laws.Table.Fields.Whole.{Sized, fields_stand}
 use Rattle.board.proofs.Laws.Capped.{capped_within}
 use Rattle.board.proofs.Laws.Table.Fields.{is_table_fields}
-use Rattle.board.proofs.Laws.Table.Fields.Parts.{hypotheses_of, rule_of}
+use Rattle.board.proofs.Laws.Table.Fields.Parts.{rule_of}
 use Rattle.files.proofs.accepted.is_table.Goals as goal
 use Rattle.files.proofs.accepted.is_table.Goals.{After-contains, Joined-rules_pass, then-rules_pass, else-rules_pass}
 
@@ -44,7 +44,7 @@ unfolding board_of
 both c =
     let t = c.args.t.now in
     let whole : min t.hypotheses 128 ≡ t.hypotheses = omega arith in
-    let rules_stand = c.rules_pass.ensures (hypotheses_of t) c.in-Some.ensures.1.atoms in
+    let rules_stand = c.rules_pass.ensures _ c.in-Some.ensures.1 in
     elim c.if-rules_pass.branch [
       | then-rules_pass w ↦
           let weight = rw whole at (w.whole_weight.ensures t.atoms t.atom (rules_in t.head t.body t.rules)) in

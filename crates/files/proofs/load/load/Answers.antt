@@ -1,4 +1,4 @@
--- `load` meets its contract. The loop's invariant is `Progress`: the board read so far stands in the table, what is known of its hypotheses is, and what
+-- `load` meets its contract. The loop's invariant is `Progress`: the board read so far stands in the table, what is known of it is, and what
 -- is left to load is what `load_from` gives from the next place on. The measure is what is left of the file. Assumes nothing.
 use native.Mathlib.Omega.{arith}
 use mathlib.Core.Path.{◌≡◌, refl, sym, ap, ◌∙◌}
@@ -8,44 +8,36 @@ use mathlib.Core.List.{List}
 use lib.Dec.{T}
 use lib.Pow.{are_bytes}
 use lib.ListN.{length}
+use Rattle.std.proofs.Common.{rules}
 use Rattle.std.proofs.lemmas.Result.{err_from_is_err_and}
 use Rattle.board.specs.Answers.{accepted}
-use Rattle.board.specs.File.{Record, Found, count, hypothesis, rule, low_bytes}
+use Rattle.board.specs.File.{Record, Found, count, hypothesis, rule}
 use Rattle.board.proofs.Laws.File.Bytes.{are_bytes_of}
-use Rattle.board.specs.Load.{first_failing, field_checks, taking, is_finish}
+use Rattle.board.specs.Load.{no_board, first_failing, field_checks, taking, is_finish}
 use Rattle.board.proofs.Laws.Load.Checks.{rule-filled_first}
 use Rattle.board.proofs.Laws.Load.Loaded.{begun_rules, begun_atoms}
 use Rattle.files.proofs.Laws.Passed.{Passes, passed-accepted, outcome-refused, ending-accepted}
-use Rattle.files.proofs.Laws.Progress.{Progress, progress_start, ends_refused, ends_finished, goes_further, next-sound, goes_on, room-hypotheses, room-last}
+use Rattle.files.proofs.Laws.Progress.{Progress, progress_start, ends_refused, ends_finished, goes_further, next-sound, goes_on, room-hypotheses, room-last, room-rules}
 use Rattle.board.proofs.Laws.Load.Room.{room-after-hypothesis, room-after-rule}
 use Rattle.board.specs.Table.{table_of}
 use Rattle.board.proofs.Laws.Table.Taking.{table_of-count, table_of-hypothesis, table_of-rule}
 use Rattle.board.proofs.Laws.Load.Passes.{so_far}
-use Rattle.files.specs.Private.Seen.{SeenOf}
+use Rattle.files.specs.Private.Taking.{SeenAfter}
 use Rattle.board.specs.EntryPoints.{record_means, read_means, table_answer}
 use Rattle.board.specs.declared.Table.{Table}
 use Rattle.files.specs.declared.checks.Seen.{Seen}
 use Rattle.files.proofs.load.load.Goals as goal
-use Rattle.files.proofs.load.load.Goals.{In-Ok, In-Hypothesis, In-Rule}
-
--- the board read so far, by what the table has of it
-module _ {file : List ℕ} {t : Table} {seen : Seen} {at : ℕ} (p : Progress file t seen at) where
-  atoms-same : p.board.atoms ≡ t.atoms
-  unfolding table_of
-  atoms-same = sym (ap (λ (u : Table). u.atoms) p.table)
-
-  rules-same : length p.board.rules ≡ t.rules
-  unfolding table_of
-  rules-same = sym (ap (λ (u : Table). u.rules) p.table)
+use Rattle.files.proofs.load.load.Goals.{In-Ok, In-Hypothesis, In-Rule, in-Count, in-Hypothesis, in-Rule}
 
 pub loop-found-init : goal.loop-found-init
-loop-found-init c = rw c.zero-t.ensures (progress_start _ _ c.nothing-seen.ensures)
+unfolding no_board
+loop-found-init c = rw c.zero-t.ensures (progress_start _ _ c.of_atoms-seen.ensures)
 
 pub returns-in_default : goal.returns-in_default
 unfolding read_means table_answer
 returns-in_default c =
     let p = c.loop-found.invariant in
-    let passed = c.passed_record-answer.ensures _ (atoms-same p) (rules-same p) p.known in
+    let passed = c.passed_record-answer.ensures _ p.known in
     let told = ap read_means c.unwrap_err.ensures in
     rw (ends_refused p _ _ (sym passed ∙ told))
 
@@ -59,7 +51,7 @@ module _ (k : In-Ok) where
   unfolding read_means
   passes =
       let p = k.loop-found.invariant in
-      passed-accepted _ _ _ read (sym (k.passed_record-answer.ensures _ (atoms-same p) (rules-same p) p.known) ∙ ap read_means k.in-Ok.is)
+      passed-accepted _ _ _ read (sym (k.passed_record-answer.ensures _ p.known) ∙ ap read_means k.in-Ok.is)
 
   further : length k.args.file.now - read.next < length k.args.file.now - k.loop-found.at
   further = omega (arith, goes_further k.loop-found.invariant read passes)
@@ -74,9 +66,12 @@ module _ (k : In-Ok) where
     sound : T (so_far (taking k.loop-found.invariant.board r))
     sound = rw same at (next-sound k.loop-found.invariant read passes bytes (rw same unfinished))
 
-    again : (t' : Table) (seen' : Seen) → t' ≡ table_of (taking k.loop-found.invariant.board r) → SeenOf (taking k.loop-found.invariant.board r).hypotheses seen'
+    again : (t' : Table) (seen' : Seen) → t' ≡ table_of (taking k.loop-found.invariant.board r) → SeenAfter k.loop-found.seen read.found seen'
         → Progress k.args.file.now t' seen' read.next
-    again t' seen' table known = goes_on k.loop-found.invariant read passes bytes (rw same unfinished) t' seen' (rw same table) (rw same known)
+    again t' seen' table known =
+        let p = k.loop-found.invariant in
+        let goes : is_finish read.found ≡ false = rw same unfinished in
+        goes_on p read passes bytes goes t' seen' (rw same table) (known p.board (begun_atoms p.board p.begun) p.known (passes.checks goes))
 
   -- a hypothesis
   module _ (d a w : ℕ) (same : read.found ≡ hypothesis d a w) where
@@ -109,7 +104,7 @@ is_hypothesis_lem : (c : In-Hypothesis) → record_means c.in-Ok.found.record �
 unfolding record_means
 is_hypothesis_lem c = ap record_means c.in-Hypothesis.is
 
-is_rule : (c : In-Rule) → record_means c.in-Ok.found.record ≡ rule c.in-Rule.head (low_bytes 8 c.in-Rule.places)
+is_rule : (c : In-Rule) → record_means c.in-Ok.found.record ≡ rule c.in-Rule.head c.in-Rule.places
 unfolding record_means
 is_rule c = ap record_means c.in-Rule.is
 
@@ -129,7 +124,7 @@ pub overflow_add-t : goal.overflow_add-t
 overflow_add-t c = omega (arith, hypothesis-room (goal.at.overflow_add-t c).In-Ok _ _ _ (is_hypothesis_lem c))
 
 pub with-seen-requires : goal.with-seen-requires
-with-seen-requires c = room-last c.loop-found.invariant
+with-seen-requires c = (room-last c.loop-found.invariant, room-rules c.loop-found.invariant)
 
 pub bounds-t-i-in-Rule : goal.bounds-t-i-in-Rule
 bounds-t-i-in-Rule c = rule-room (goal.at.bounds-t-i-in-Rule c).In-Ok _ _ (is_rule c)
@@ -160,46 +155,31 @@ returns-in-End c =
     let finished = ends_finished p (read k) (passes k) (ap (λ x. is_finish (record_means x)) c.in-End.is) in
     rw (finished, ending-accepted _ _ _ _ (c.in_ok-ended-in-End.ensures p.board _ p.table refl)) (ap accepted p.table)
 
-pub loop-found-smaller-in-Count : goal.loop-found-smaller-in-Count
-loop-found-smaller-in-Count c = further (goal.at.loop-found-smaller-in-Count c).In-Ok
-
-pub loop-found-preserved-in-Count : goal.loop-found-preserved-in-Count
-unfolding record_means is_finish taking
-loop-found-preserved-in-Count c =
-    let p = c.loop-found.invariant in
-    let n = c.in-Count.n in
-    again (goal.at.loop-found-preserved-in-Count c).In-Ok (count n) (ap record_means c.in-Count.is) refl _ _
-    (rw c.from.ensures (table_of-count p.board c.loop-found.t p.table n)) p.known
-
-pub loop-found-smaller-in-Hypothesis : goal.loop-found-smaller-in-Hypothesis
-loop-found-smaller-in-Hypothesis c = further (goal.at.loop-found-smaller-in-Hypothesis c).In-Ok
-
-pub loop-found-preserved-in-Hypothesis : goal.loop-found-preserved-in-Hypothesis
-loop-found-preserved-in-Hypothesis c =
-    let p = c.loop-found.invariant in
-    let at = goal.at.loop-found-preserved-in-Hypothesis c in
-    let k = at.In-Ok in
-    let h = c.in-Hypothesis in
-    let is = is_hypothesis_lem at.In-Hypothesis in
-    let goes = unfinished k _ _ _ is in
-    again k (hypothesis h.d h.a h.w) is goes _ _
-    (table_of-hypothesis p.board c.loop-found.t p.table h.d h.a h.w (hypothesis-fits k _ _ _ is))
-    (c.with-seen.ensures h.w p.board (begun_atoms p.board p.begun) p.known (checks k _ is goes))
-
 pub loop-found-smaller : goal.loop-found-smaller
 loop-found-smaller c = further (goal.at.loop-found-smaller c).In-Ok
 
 pub loop-found-preserved : goal.loop-found-preserved
-unfolding taking low_bytes
+unfolding record_means is_finish taking
 loop-found-preserved c =
     let p = c.loop-found.invariant in
-    let at = goal.at.loop-found-preserved c in
-    let k = at.In-Ok in
-    let head = c.in-Rule.head in
-    let places = low_bytes 8 c.in-Rule.places in
-    let is = is_rule at.In-Rule in
-    let goes = open_ended k _ _ is in
-    again k (rule head places) is goes _ _
-    (table_of-rule p.board c.loop-found.t p.table head places (begun_rules p.board p.begun) (rule_fits k _ _ is) refl
-    (rule-filled_first p.board head places (checks k _ is goes)) _ c.put.ensures)
-    p.known
+    let k = (goal.at.loop-found-preserved c).In-Ok in
+    let t = c.loop-found.t in
+    elim c.match-found.branch [
+      | in-Count w ↦
+          let n = w.in-Count.n in
+          again k (count n) (ap record_means w.in-Count.is) refl _ _ (w.t-is ∙ rw w.from.ensures (table_of-count p.board t p.table n)) c.with-seen.ensures
+      | in-Hypothesis w ↦
+          let h = w.in-Hypothesis in
+          let is = ap record_means h.is in
+          again k (hypothesis h.d h.a h.w) is refl _ _
+          (w.t-is ∙ table_of-hypothesis p.board t p.table h.d h.a h.w (hypothesis-fits k _ _ _ is))
+          c.with-seen.ensures
+      | in-Rule w ↦
+          let r = w.in-Rule in
+          let is = ap record_means r.is in
+          again k (rule r.head r.places) is refl _ _
+          (w.t-is
+          ∙ table_of-rule p.board t p.table r.head r.places (begun_rules p.board p.begun) (rule_fits k _ _ is) (search rules)
+          (rule-filled_first p.board r.head r.places (checks k _ is refl)) _ w.put.ensures)
+          c.with-seen.ensures
+    ]

@@ -1,4 +1,4 @@
--- `load` meets its contract. The loop's invariant is `Progress`: the board read so far stands in the table, what is known of its hypotheses is, and what
+-- `load` meets its contract. The loop's invariant is `Progress`: the board read so far stands in the table, what is known of it is, and what
 -- is left to load is what `load_from` gives from the next place on. The measure is what is left of the file. Assumes nothing.
 use Prim.Native.Nat.{◌-◌}
 use lib.ListN.{length}

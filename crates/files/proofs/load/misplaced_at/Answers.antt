@@ -8,14 +8,14 @@ use Rattle.files.proofs.load.misplaced_at.Goals.{in_default-via-in-None-1, in_de
 
 pub returns : goal.returns
 unfolding misplaced_at
-returns c b e l =
-    let k = known_number c.in-Ok.kind in
-    let m = c.misplaced_here.ensures b e l in
+returns c b k =
+    let n = known_number c.in-Ok.kind in
+    let m = c.is_misplaced.ensures b k in
     grind (arith, common_steps)
 
 pub returns-2 : goal.returns-2
 unfolding misplaced_at
-returns-2 c b e l =
+returns-2 c b k =
     elim c.in_default.branch [
       | in_default-via-in-None-1 w ↦ grind (arith, common_steps)
       | in_default-via-in-Some+in-Err-1 w ↦ grind (arith, common_steps)

@@ -1,5 +1,6 @@
 -- `read_record` meets its contract: the tests that lead to each answer are those of `read_record`. Assumes nothing.
 use Rattle.std.proofs.Common.{◌≡◌, ℕ, ◌≤◌, ◌<◌, length, get_or, Result, Ok, Err, MatchResult, true, false, sym, ap, subst, ◌∙◌, arith, rules}
+use Rattle.std.proofs.lemmas.List.{take_rest}
 use Rattle.std.proofs.lemmas.Result.{err_from_is_err_and}
 use Rattle.board.specs.File.{known_kind, next_place}
 use Rattle.board.specs.EntryPoints.{read_means}
@@ -9,9 +10,9 @@ use Rattle.board.specs.declared.RefusedAt.{RefusedAt}
 use Rattle.board.proofs.Laws.File.{body_bytes-le, read_past, read_unknown, read_short, read_whole}
 use Rattle.files.specs.declared.record.Kind.{Kind}
 use Rattle.files.specs.Private.Kinds.{kind_number, KindOf}
-use Rattle.files.proofs.Laws.Kinds.{known_number}
+use Rattle.files.proofs.Laws.Kinds.{known_number, record_of-drop}
 use Rattle.files.proofs.record.read_record.Goals as goal
-use Rattle.files.proofs.record.read_record.Goals.{In-Some, In_ok-kind, In_err-kind}
+use Rattle.files.proofs.record.read_record.Goals.{In-Some, In_ok-kind}
 
 -- the byte that was read
 byte : (c : In-Some) → (c.args.at < length c.args.file.now) × (c.in-Some.byte.now ≡ get_or c.args.file.now c.args.at 0)
@@ -71,4 +72,4 @@ returns c =
     let read = byte (goal.at.returns c).In-Some in
     let kind = (goal.at.returns c).In_ok-kind in
     let whole = read_whole a.file.now a.at read.0 (known kind) (rw (kind_byte kind) (omega (arith, c.body_bytes.ensures))) in
-    rw (c.read_body.ensures, c.body_bytes.ensures) (sym (rw (kind_byte kind) at whole))
+    rw (c.read_body.ensures, take_rest, record_of-drop, c.body_bytes.ensures) (sym (rw (kind_byte kind) at whole))

@@ -2,6 +2,7 @@
 -- and a list as a function of its indices. `get_or xs i d` is what stands at index i of xs. Assumes nothing.
 use Prim.Native.Nat.{ℕ, zero, suc, ◌+◌, ◌≤◌, ◌<◌}
 use native.Mathlib.Omega.{arith}
+use native.Mathlib.Numerals.{add-one}
 use native.Mathlib.Nat.{not-suc-le-zero, add-zero, suc-add, add-suc}
 use mathlib.Core.Path.{◌≡◌, refl, sym, ap, ap₂, ◌∙◌}
 use mathlib.Core.Bool.{Bool, true, false}
@@ -10,6 +11,7 @@ use mathlib.Core.List.{List, [], ◌∷◌, map, Memᴰ}
 use lib.Dec.{T}
 use lib.ListN.{length, get_or, take}
 use lib.Seq.{length-take-le, get_or-take}
+use Rattle.std.specs.List.{range_with_len}
 use Rattle.sets.specs.Lists.{any, all, numbers_from, below}
 use Rattle.sets.proofs.Laws.Lists.{all_of, any_of, any_none}
 use Rattle.sets.proofs.Laws.Tests.{T_of_true, true_of_T}
@@ -40,6 +42,12 @@ module _ {ℓ} {A : Type ℓ} where
     all_everywhere h = true_of_T (all p xs) (all_of p xs (λ x m. let (i, l, e) = index_of d m in rw e at (h i l)))
 
 -- ---- the numbers below a bound
+
+-- a range has the numbers from its start on
+pub range_with_len-numbers_from : (a n : ℕ) → range_with_len a n ≡ numbers_from a n
+unfolding numbers_from
+range_with_len-numbers_from a zero = refl
+range_with_len-numbers_from a (suc n) = rw (range_with_len-numbers_from (a + 1) n, add-one)
 
 -- there are n numbers from a on
 numbers_length : (a n : ℕ) → length (numbers_from a n) ≡ n

@@ -1,10 +1,11 @@
--- The size, the highest atom and the order of sets in two words, from counts of the words' digits. Assumes nothing.
+-- The size, the highest atom, the lowest one and the order of sets in two words, from counts of the words' digits. Assumes nothing.
 use Prim.Native.Nat.{ℕ, suc, ◌+◌, ◌-◌, ◌^◌, ◌≤◌, ◌<◌}
 use native.Mathlib.Nat.{mul-le-mul_right, le_trans, suc-add}
 use native.Mathlib.Omega.{arith}
 use native.Mathlib.Decide.{dec_lt, ℕ_discrete}
 use mathlib.Core.Path.{◌≡◌, sym, ap, ◌∙◌, subst}
 use mathlib.Core.Bool.{false}
+use mathlib.Core.List.{[], ◌∷◌}
 use lib.Arith.{digits_lt}
 use lib.Bits.{bit_xor, xor_block, xor_self}
 use lib.Count.{count_leading_zeros, leading_top, ones, ones_cat, count_trailing_zeros}
@@ -12,13 +13,14 @@ use lib.Dec.{T}
 use lib.Pow.{pow-add, pow_pos}
 use Rattle.sets.specs.Dictionary.{lowest_first}
 use Rattle.sets.specs.Masks.{mask_means}
-use Rattle.sets.specs.Sets.{member, highest, size, words}
+use Rattle.sets.specs.Sets.{member, without, members, highest, size, words}
 use Rattle.sets.specs.declared.mask.Mask.{Mask}
 use Rattle.sets.proofs.Laws.Dictionary.{difference_lowest, lowest_first_at, lowest_first-same}
 use Rattle.sets.proofs.Laws.Masks.{mask_means_less}
-use Rattle.sets.proofs.Laws.Sets.Counts.{IsLowest, size_ones, highest-top}
+use Rattle.sets.proofs.Laws.Sets.Counts.{IsLowest, size_ones, highest-top, trailing_lowest}
 use Rattle.sets.proofs.Laws.Sets.Digits.{member_empty, member-low, member-high}
 use Rattle.sets.proofs.Laws.Sets.Highest.{highest_empty}
+use Rattle.sets.proofs.Laws.Sets.Members.{members_empty, members-lowest}
 
 -- a set with nothing in the high word is its low word
 low_alone : (m : Mask) → m.high ≡ 0 → mask_means m ≡ m.low
@@ -55,11 +57,15 @@ module _ (m : Mask) (low : m.low < 2 ^ 64) (high : m.high < 2 ^ 64) where
       highest-top j (mask_means m) (omega arith) (rw same least) (rw same most) (mask_means_less m low high) in
       omega arith
 
+-- where neither word has one, there is no atom
+pub members_no_word : (m : Mask) → m.high ≡ 0 → m.low ≡ 0 → members (mask_means m) ≡ []
+members_no_word m none empty = rw (low_alone m none, empty) members_empty
+
 -- where neither has
 pub highest_no_word : (m : Mask) → m.high ≡ 0 → m.low ≡ 0 → 0 ≡ highest (mask_means m)
 highest_no_word m none empty = rw (low_alone m none, empty) (sym highest_empty)
 
--- ---- the lowest difference
+-- ---- the lowest atom
 
 -- the lowest atom of the low word is the set's
 lowest_low : (a low high : ℕ) → a < 64 → IsLowest a low → IsLowest a (words low high)
@@ -80,6 +86,27 @@ lowest_high a high h = record {
     below b m (no l) =
         let past : b ≡ 64 + (b - 64) = omega arith in
         ap (λ (x : ℕ). member x (words 0 high)) past ∙ member-high (b - 64) 64 high 0 (pow_pos 64) ∙ h.none_below (b - 64) (omega arith)
+
+module _ (m : Mask) where
+  -- where the low word has one
+  pub lowest-low-word : m.low < 2 ^ 64 → (m.low ≡ 0 → ⊥) →
+      let a = count_trailing_zeros 64 m.low in
+      members (mask_means m) ≡ a ∷ members (without a (mask_means m))
+  unfolding mask_means
+  lowest-low-word low some =
+      let (less, lowest) = trailing_lowest 64 m.low low some in
+      members-lowest (mask_means m) _ (lowest_low _ m.low m.high less lowest) (omega arith)
+
+  -- where only the high word has one
+  pub lowest-high-word : m.low ≡ 0 → m.high < 2 ^ 64 → (m.high ≡ 0 → ⊥) →
+      let a = 64 + count_trailing_zeros 64 m.high in
+      members (mask_means m) ≡ a ∷ members (without a (mask_means m))
+  unfolding mask_means
+  lowest-high-word none high some =
+      let (less, lowest) = trailing_lowest 64 m.high high some in
+      members-lowest (mask_means m) _ (rw none (lowest_high _ m.high lowest)) (omega arith)
+
+-- ---- the lowest difference
 
 module _ (low high low' high' : ℕ) (l : low < 2 ^ 64) (l' : low' < 2 ^ 64) where
   -- low words that differ decide

@@ -1,15 +1,15 @@
 -- The ascending list of a set's members, and the set's size: the list has exactly the members and determines the set; the size of the empty set,
 -- of a set with an atom more or less, and of a subset. Assumes nothing.
-use Prim.Native.Nat.{ℕ, suc, ◌+◌, ◌-◌, ◌≤◌, ◌<◌}
+use Prim.Native.Nat.{ℕ, zero, suc, ◌+◌, ◌-◌, ◌≤◌, ◌<◌}
 use native.Mathlib.Nat.{zero-add}
 use native.Mathlib.Omega.{arith}
-use mathlib.Core.Path.{◌≡◌, refl, sym, ap, ◌∙◌, subst}
-use mathlib.Core.Bool.{Bool, true, false, ◌&&◌, not, false≢true}
-use mathlib.Core.List.{List, [], Memᴰ}
+use mathlib.Core.Path.{◌≡◌, refl, sym, ap, ap₂, ◌∙◌, subst}
+use mathlib.Core.Bool.{Bool, true, false, ◌&&◌, not, cond, false≢true}
+use mathlib.Core.List.{List, [], ◌∷◌, Memᴰ}
 use mathlib.Core.Logic.{⊎_elim}
-use lib.Dec.{T, eqb→eq}
+use lib.Dec.{T, eqb, eqb→eq}
 use lib.ListN.{length, length-append}
-use borrow.Author.Tests.{not-true}
+use borrow.Author.Tests.{not-true, eqb-true, eqb-false}
 use Rattle.sets.specs.Lists.{any, keep, numbers_from, below, among}
 use Rattle.sets.proofs.Laws.Tests.{T_of_true, true_of_T, T_ext, and_both, and_left, and_right}
 use Rattle.sets.proofs.Laws.Lists.{any_find, keep-of, keep_at, keep_cong, among_of, among_at, keep_fewer, keep-none, any_none}
@@ -17,8 +17,9 @@ use Rattle.sets.proofs.Laws.Lists.Indices.{below_of, below_at, any_below, number
 use Rattle.sets.proofs.Laws.Lists.Ends.{keep_append, numbers_from-append}
 use Rattle.sets.specs.Sets.{most_atoms}
 use Rattle.sets.specs.Sets.{member, with, without, set_of, subset, all_below, members, size}
+use Rattle.sets.proofs.Laws.Sets.Counts.{IsLowest}
 use Rattle.sets.proofs.Laws.Sets.Digits.{member_empty, set_ext, all_below_at}
-use Rattle.sets.proofs.Laws.Sets.{member-set_of, with-other, with-same, with_cases, without-same, with-without, subset-of, subset_at, subset_antisym}
+use Rattle.sets.proofs.Laws.Sets.{member-set_of, with-other, with-same, with_cases, without-same, without_other, with-without, subset-of, subset_at, subset_antisym}
 
 -- ---- lists of numbers
 
@@ -64,6 +65,35 @@ members_ext {s} {t} b c e = sym (set_of-members s b) ∙ ap set_of e ∙ set_of-
 pub members_empty : members 0 ≡ []
 unfolding members
 members_empty = keep-none (λ x. member x 0) (below most_atoms) (any_none (λ x. member x 0) (below most_atoms) (λ x m t. false≢true (sym (member_empty x) ∙ true_of_T (member x 0) t)))
+
+module _ (s a : ℕ) (lowest : IsLowest a s) where
+  lowest_from : (k n : ℕ) → k ≤ a → a < k + n → keep (λ x. member x s) (numbers_from k n) ≡ a ∷ keep (λ x. member x (without a s)) (numbers_from k n)
+  unfolding keep numbers_from
+  lowest_from k zero l m = absurd (omega arith)
+  lowest_from k (suc n) l m = go (eqb k a) refl (lowest_from (suc k) n)
+    where
+      later : List ℕ
+      later = keep (λ x. member x s) (numbers_from (suc k) n)
+
+      others : List ℕ
+      others = keep (λ x. member x (without a s)) (numbers_from (suc k) n)
+
+      go : (t : Bool) → eqb k a ≡ t → (suc k ≤ a → a < suc k + n → later ≡ a ∷ others)
+          → cond (member k s) (k ∷ later) later ≡ a ∷ cond (member k (without a s)) (k ∷ others) others
+      go true e rest =
+          let here : k ≡ a = eqb-true k a e in
+          let same : later ≡ others =
+          keep_cong (numbers_from (suc k) n) (λ x i. sym (without_other x a s (λ q. omega (arith, numbers_from-least (suc k) n i)))) in
+          rw (ap (λ (x : ℕ). member x s) here ∙ true_of_T (member a s) lowest.has, ap (λ (x : ℕ). member x (without a s)) here ∙ without-same a s)
+          (ap₂ {C = List ℕ} (λ x xs. x ∷ xs) here same)
+      go false e rest =
+          let other : k ≡ a → ⊥ = eqb-false k a e in
+          rw (without_other k a s (λ q. other (sym q)), lowest.none_below k (omega arith)) (rest (omega arith) (omega arith))
+
+  -- the lowest atom is listed first, and after it the others
+  pub members-lowest : a < most_atoms → members s ≡ a ∷ members (without a s)
+  unfolding members below
+  members-lowest l = lowest_from 0 most_atoms (omega arith) (omega arith)
 
 -- a set that is no subset has an atom that the other has not
 pub not-subset-member : (n s t : ℕ) → T (all_below n s) → (T (subset s t) → ⊥) → (a : ℕ) × T (member a s) × (member a t ≡ false)

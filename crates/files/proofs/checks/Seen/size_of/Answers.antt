@@ -3,8 +3,8 @@ use mathlib.Core.Path.{sym}
 use Rattle.files.proofs.Laws.Seen.{seen_next, seen_last}
 use Rattle.files.proofs.checks.Seen.size_of.Goals as goal
 
-pub returns-then-number-self : goal.returns-then-number-self
-returns-then-number-self c hs k f = sym (seen_next k _ c.if-number-self.true)
+pub returns-then-number-self-clause-size : goal.returns-then-number-self-clause-size
+returns-then-number-self-clause-size c b k f = sym (seen_next k _ c.if-number-self.true)
 
-pub returns-else-number-self : goal.returns-else-number-self
-returns-else-number-self c hs k f = sym (seen_last k _ f c.if-number-self.false)
+pub returns-else-number-self-clause-size : goal.returns-else-number-self-clause-size
+returns-else-number-self-clause-size c b k f = sym (seen_last k _ f c.if-number-self.false)
