@@ -36,13 +36,13 @@
    function itself writes, and in brackets with the arguments and the result that the caller holds for it.
 
                             basic steps, at most some                   KiB of stack
-     vilthomm_load          130,000, however long the file                11.3   (14.3)
-     vilthomm_open          90,000                                        56.3   (85.3)
-     vilthomm_run           2,500,000, and 1,500,000 for each step        83.7  (138.8)
-     vilthomm_share         2,500,000                                     47.8   (76.8)
+     vilthomm_load          130,000, however long the file                14.3   (17.3)
+     vilthomm_open          90,000                                        59.3   (88.3)
+     vilthomm_run           2,500,000, and 1,500,000 for each step        95.5  (150.6)
+     vilthomm_share         2,500,000                                     58.6   (87.6)
      vilthomm_yes_or_no     330,000                                       11.4   (14.3)
      vilthomm_total         90,000                                         7.2   (10.2)
-     vilthomm_listing       load's, open's and run's, 700,000 more       117.8  (117.8)
+     vilthomm_listing       load's, open's and run's, 800,000 more       126.6  (126.6)
 
    The bound of a step is that of an atom with 256 rules. `bench/run` measures, in processor time on a current x86-64, along whole stretches at 480 to 512
    entries on five boards (bench/README.md has its figures; these times are of an older archive):
