@@ -38,8 +38,8 @@
                             basic steps, at most some                   KiB of stack
      vilthomm_load          130,000, however long the file                14.3   (17.3)
      vilthomm_open          90,000                                        59.3   (88.3)
-     vilthomm_run           2,500,000, and 1,500,000 for each step        95.5  (150.6)
-     vilthomm_share         2,500,000                                     58.6   (87.6)
+     vilthomm_run           2,800,000, and 1,500,000 for each step        95.5  (150.6)
+     vilthomm_share         2,800,000                                     58.6   (87.6)
      vilthomm_yes_or_no     330,000                                       11.4   (14.3)
      vilthomm_total         90,000                                         7.2   (10.2)
      vilthomm_listing       load's, open's and run's, 800,000 more       126.6  (126.6)

@@ -71,7 +71,7 @@ fn passed_record(file: &[u8], at: usize, seen: Seen) -> Result<Found, RefusedAt>
 
 // Loads a board file: the table, or the refusal and its place. A file is read up to its first failing record, and no more than 386 records
 // pass: 128 hypotheses at some 200 basic steps, 256 rules at some 400, and the end at some 3,000, so at most some 130,000 in all, however long the
-// file. Some 12 KB of stack: the table in hand and its copies, 3 KB each.
+// file. Some 14 KB of stack: the table in hand and its copies, 3 KB each.
 pub fn load(file: &[u8]) -> Result<Table, RefusedAt>
     ensures { LoadsAs (load file.now) result }
 {
