@@ -45,14 +45,15 @@
      vilthomm_listing       load's, open's and run's, 800,000 more       126.6  (126.6)
 
    The bound of a step is that of an atom with 256 rules. `bench/run` measures, in processor time on a current x86-64, along whole stretches at 480 to 512
-   entries on five boards (bench/README.md has its figures; these times are of an older archive):
+   entries on five boards (bench/README.md has its figures; these times are of an older archive and a
+   quicker machine, the ratios of this archive):
    - A step takes 30 to 130 nanoseconds on average. A run tests its table and its search each time: beside its steps it takes up to 85 to 150 microseconds,
      by the board, as long as 1,200 to 4,000 steps there, and less over a small search. So a run of 1,000 steps takes up to 120 to 270 microseconds, most of
      it tests. Few long runs are cheaper than many short ones.
    - A share makes the same tests, at each call: up to 85 to 145 microseconds. Of a whole list, line[VILTHOMM_LINE_WEIGHT][i] * 1000 / low of a run's answer
      is the same.
-   - In long runs the library takes 2.4 to 4.6 times the steps a second of plain C with its entries sorted in one array, 1.0 to 1.7 times those of the same
-     C with an array that has their order, and 0.2 to 1.2 times those of the fastest C that was found. That C tests nothing.
+   - In long runs the library takes 3.0 to 4.4 times the steps a second of plain C with its entries sorted in one array, 0.8 to 1.6 times those of the same
+     C with an array that has their order, and 0.2 to 1.0 times those of the fastest C that was found. That C tests nothing.
    - On the dearest board that was found (217 rules of one atom, pending again and again beside 500 entries), runs of 1,000 steps take up to 20 microseconds
      a step, so 20 milliseconds. That no board is dearer is not claimed.
 
