@@ -38,8 +38,8 @@ unfoldable pub table_answer : FileAnswer Board → FileAnswer Table
 table_answer (accepted b) = accepted (table_of b)
 table_answer (refused_at number place) = refused_at number place
 
--- what loading answers. That "a refused load returns the table whose every field is zero" is said where a table is handed back beside a refusal:
--- under C names (`load_answer`).
+-- what loading answers. "A refused load returns the table whose every field is zero": beside this `load` ensures that its `unwrap_or_default` is
+-- `table_in`, and under C names the table stands beside the refusal (`load_answer`).
 abbrev pub LoadsAs : FileAnswer Board → Result Table RefusedAt → Type 0
 LoadsAs answer r = file_answer_means r ≡ table_answer answer
 

@@ -46,6 +46,15 @@ impl Table {
     }
 }
 
+// The table beside a refusal, so that `unwrap_or_default` of what loading answers is what document 01 hands back.
+impl Default for Table {
+    ghost is_default = { λ t. t ≡ zero_table };
+
+    fn default() -> Table {
+        Table::zero()
+    }
+}
+
 // Why a call is refused: the rows of document 01's table "What the scope says no to", each under its word and with its number.
 #[derive(Clone, Copy, PartialEq, Eq)]
 pub enum Refusal {

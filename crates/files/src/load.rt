@@ -1,10 +1,11 @@
 // Loading a board file (document 01, "The board file").
 ghost use Rattle.std.specs.Prelude.{◌≡◌, List, ℕ, ◌≤◌, length};
+ghost use Rattle.std.specs.Result.{result_unwrap_or};
 ghost use Rattle.board.specs.Sizes.{most_atoms};
 ghost use Rattle.board.specs.Answers.{file_answer_means};
 ghost use Rattle.board.specs.Board.{Board};
 ghost use Rattle.board.specs.Load.{load, misplaced_at};
-ghost use Rattle.board.specs.Table.{table_of};
+ghost use Rattle.board.specs.Table.{table_of, table_in, zero_table};
 ghost use Rattle.board.specs.EntryPoints.{outcome_of, read_means, LoadsAs};
 ghost use Rattle.files.specs.Private.Seen.{SeenOf};
 ghost use Rattle.files.specs.Private.Taking.{passed_record, ending};
@@ -73,7 +74,8 @@ fn passed_record(file: &[u8], at: usize, seen: Seen) -> Result<Found, RefusedAt>
 // pass: 128 hypotheses at some 200 basic steps, 256 rules at some 400, and the end at some 3,000, so at most some 130,000 in all, however long the
 // file. Some 14 KB of stack: the table in hand and its copies, 3 KB each.
 pub fn load(file: &[u8]) -> Result<Table, RefusedAt>
-    ensures { LoadsAs (load file.now) result }
+    ensures answers { LoadsAs (load file.now) result }
+    ensures table { result_unwrap_or result zero_table ≡ table_in (load file.now) }
 {
     let mut t = Table::zero();
     let mut seen = Seen::of_atoms(0);

@@ -9,7 +9,9 @@ use borrow.Author.Tests.{lt-leb}
 use Rattle.sets.specs.Lists.{any, all}
 use Rattle.sets.proofs.Laws.Lists.{any_cong, all_cong}
 use Rattle.sets.proofs.Laws.Tests.{true_of_T}
-use Rattle.board.specs.Answers.{FileAnswer, accepted, refused_at, Answer, granted, refused}
+use Rattle.std.specs.Prelude.{Result, Ok, Err}
+use Rattle.std.specs.Result.{result_unwrap_or}
+use Rattle.board.specs.Answers.{FileAnswer, accepted, refused_at, Answer, granted, refused, file_answer_means}
 use Rattle.board.specs.Board.{Board, declarations, is_state_of}
 use Rattle.board.specs.Holds.{rule_holds, holds, in_state}
 use Rattle.board.specs.Load.{load}
@@ -19,6 +21,7 @@ use Rattle.board.proofs.Laws.Accepted.{accepted-bodies-below}
 use Rattle.board.proofs.Laws.Holds.{holds-step}
 use Rattle.board.proofs.Laws.Table.{is_table-board}
 use Rattle.board.specs.declared.Table.{Table}
+use Rattle.board.specs.declared.RefusedAt.{RefusedAt}
 
 -- the table that loading a file hands back is that of the board it was accepted with
 pub table_in-accepted : (file : List ℕ) (b : Board) → load file ≡ accepted b → table_in (load file) ≡ table_of b
@@ -41,6 +44,14 @@ pub refused_at-of : (answer : FileAnswer Board) (number place : ℕ) → refused
 unfolding table_answer
 refused_at-of (accepted b) number place e = let z : ◌≡◌ {A = ℕ} 0 1 = cc in absurd (omega arith)
 refused_at-of (refused_at n p) number place e = cc
+
+-- with the zero table in the place of what a refusal does not have, it is the table that document 01 hands back
+pub table_in-of : (answer : FileAnswer Board) (r : Result Table RefusedAt) → file_answer_means r ≡ table_answer answer → result_unwrap_or r zero_table ≡ table_in answer
+unfolding table_in table_answer
+table_in-of (accepted b) (Ok t) e = cc
+table_in-of (accepted b) (Err r) e = let z : ◌≡◌ {A = ℕ} 0 1 = cc in absurd (omega arith)
+table_in-of (refused_at number place) (Ok t) e = let z : ◌≡◌ {A = ℕ} 0 1 = cc in absurd (omega arith)
+table_in-of (refused_at number place) (Err r) e = refl
 
 -- ---- the yes-or-no, as its two sentences stand
 

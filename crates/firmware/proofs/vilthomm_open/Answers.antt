@@ -3,7 +3,7 @@ use Rattle.firmware.proofs.Laws.{opens-granted, opens-refused}
 use Rattle.firmware.proofs.vilthomm_open.Goals as goal
 
 pub returns-in-Ok : goal.returns-in-Ok
-returns-in-Ok c = opens-granted _ c.in-Ok.search c.in-Ok.ensures
+returns-in-Ok c = opens-granted _ c.in-Ok.search c.in-Ok.ensures.answers
 
 pub returns-in-Err : goal.returns-in-Err
-returns-in-Err c = rw (c.number.ensures, c.zero.ensures) (opens-refused _ _ c.in-Err.ensures)
+returns-in-Err c = rw (c.number.ensures, c.zero.ensures) (opens-refused _ _ c.in-Err.ensures.answers)

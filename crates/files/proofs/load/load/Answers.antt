@@ -9,6 +9,7 @@ use lib.Dec.{T}
 use lib.Pow.{are_bytes}
 use lib.ListN.{length}
 use Rattle.std.proofs.Common.{rules}
+use Rattle.std.specs.Prelude.{Ok, Err}
 use Rattle.std.proofs.lemmas.Result.{err_from_is_err_and}
 use Rattle.board.specs.Answers.{accepted}
 use Rattle.board.specs.File.{Record, Found, count, hypothesis, rule}
@@ -20,6 +21,7 @@ use Rattle.files.proofs.Laws.Passed.{Passes, passed-accepted, outcome-refused, e
 use Rattle.files.proofs.Laws.Progress.{Progress, progress_start, ends_refused, ends_finished, goes_further, next-sound, goes_on, room-hypotheses, room-last, room-rules}
 use Rattle.board.proofs.Laws.Load.Room.{room-after-hypothesis, room-after-rule}
 use Rattle.board.specs.Table.{table_of}
+use Rattle.board.proofs.Laws.EntryPoints.{table_in-of}
 use Rattle.board.proofs.Laws.Table.Taking.{table_of-count, table_of-hypothesis, table_of-rule}
 use Rattle.board.proofs.Laws.Load.Passes.{so_far}
 use Rattle.files.specs.Private.Taking.{SeenAfter}
@@ -33,9 +35,9 @@ pub loop-found-init : goal.loop-found-init
 unfolding no_board
 loop-found-init c = rw c.zero-t.ensures (progress_start _ _ c.of_atoms-seen.ensures)
 
-pub returns-in_default : goal.returns-in_default
+pub returns-in_default-clause-answers : goal.returns-in_default-clause-answers
 unfolding read_means table_answer
-returns-in_default c =
+returns-in_default-clause-answers c =
     let p = c.loop-found.invariant in
     let passed = c.passed_record-answer.ensures _ p.known in
     let told = ap read_means c.unwrap_err.ensures in
@@ -138,22 +140,32 @@ overflow_add-t-in-Rule c = omega (arith, rule-room (goal.at.overflow_add-t-in-Ru
 pub ended-requires : goal.ended-requires
 ended-requires c = room-hypotheses c.loop-found.invariant
 
-pub returns-in_err-ended-in-End : goal.returns-in_err-ended-in-End
+pub returns-in_err-ended-in-End-clause-answers : goal.returns-in_err-ended-in-End-clause-answers
 unfolding record_means is_finish table_answer
-returns-in_err-ended-in-End c =
+returns-in_err-ended-in-End-clause-answers c =
     let p = c.loop-found.invariant in
-    let k = (goal.at.returns-in_err-ended-in-End c).In-Ok in
+    let k = (goal.at.returns-in_err-ended-in-End-clause-answers c).In-Ok in
     let finished = ends_finished p (read k) (passes k) (ap (λ x. is_finish (record_means x)) c.in-End.is) in
     let r = err_from_is_err_and c.from_residual.result c.from_residual.ensures.1 in
     rw (r.1, r.2, finished, outcome-refused _ _ _ (c.in_err-ended-in-End.ensures p.board _ p.table refl))
 
-pub returns-in-End : goal.returns-in-End
+pub returns-in-End-clause-answers : goal.returns-in-End-clause-answers
 unfolding record_means is_finish table_answer
-returns-in-End c =
+returns-in-End-clause-answers c =
     let p = c.loop-found.invariant in
-    let k = (goal.at.returns-in-End c).In-Ok in
+    let k = (goal.at.returns-in-End-clause-answers c).In-Ok in
     let finished = ends_finished p (read k) (passes k) (ap (λ x. is_finish (record_means x)) c.in-End.is) in
     rw (finished, ending-accepted _ _ _ _ (c.in_ok-ended-in-End.ensures p.board _ p.table refl)) (ap accepted p.table)
+
+-- with the zero table beside a refusal, it is the table that document 01 hands back
+pub returns-in_default-clause-table : goal.returns-in_default-clause-table
+returns-in_default-clause-table c = table_in-of _ (Err c.unwrap_err.result) (returns-in_default-clause-answers c)
+
+pub returns-in_err-ended-in-End-clause-table : goal.returns-in_err-ended-in-End-clause-table
+returns-in_err-ended-in-End-clause-table c = table_in-of _ c.from_residual.result (returns-in_err-ended-in-End-clause-answers c)
+
+pub returns-in-End-clause-table : goal.returns-in-End-clause-table
+returns-in-End-clause-table c = table_in-of _ (Ok c.loop-found.t) (returns-in-End-clause-answers c)
 
 pub loop-found-smaller : goal.loop-found-smaller
 loop-found-smaller c = further (goal.at.loop-found-smaller c).In-Ok

@@ -12,7 +12,7 @@ use Rattle.text.proofs.put.Writer.loaded.Goals.{In-Ok}
 stands : (c : In-Ok) → T (is_table c.in-Ok.t)
 stands c =
     let file = c.args.file.now in
-    loaded-table file c.args.input.now (are_bytes_of file (λ i. omega (arith, c.type_inv.file i))) c.in-Ok.t c.in-Ok.ensures
+    loaded-table file c.args.input.now (are_bytes_of file (λ i. omega (arith, c.type_inv.file i))) c.in-Ok.t c.in-Ok.ensures.answers
 
 pub invariant_of-asked : goal.invariant_of-asked
 invariant_of-asked c = record { loads = stands (goal.at.invariant_of-asked c).In-Ok }
@@ -26,11 +26,11 @@ asked-requires c =
 pub returns-in-Ok : goal.returns-in-Ok
 returns-in-Ok c =
     let file = c.args.file.now in
-    rw (loaded-asked file c.args.input.now (are_bytes_of file (λ i. omega (arith, c.type_inv.file i))) c.in-Ok.t c.in-Ok.ensures) c.asked.ensures
+    rw (loaded-asked file c.args.input.now (are_bytes_of file (λ i. omega (arith, c.type_inv.file i))) c.in-Ok.t c.in-Ok.ensures.answers) c.asked.ensures
 
 pub refused_file-requires : goal.refused_file-requires
 refused_file-requires c =
     omega (arith, refused-file-length _ c.in-Err.refused.place (refusal-few c.in-Err.refused.refusal) (omega arith))
 
 pub returns-in-Err : goal.returns-in-Err
-returns-in-Err c = rw (loaded-refused c.args.file.now c.args.input.now _ _ c.in-Err.ensures) c.refused_file.ensures
+returns-in-Err c = rw (loaded-refused c.args.file.now c.args.input.now _ _ c.in-Err.ensures.answers) c.refused_file.ensures
