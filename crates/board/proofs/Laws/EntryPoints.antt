@@ -16,12 +16,12 @@ use Rattle.board.specs.Board.{Board, declarations, is_state_of}
 use Rattle.board.specs.Holds.{rule_holds, holds, in_state}
 use Rattle.board.specs.Load.{load}
 use Rattle.board.specs.Table.{table_in, table_of, zero_table, board_of, is_table}
-use Rattle.board.specs.EntryPoints.{table_answer, yes_or_no}
+use Rattle.board.specs.EntryPoints.{outcome_of, table_answer, LoadsAs, yes_or_no}
 use Rattle.board.proofs.Laws.Accepted.{accepted-bodies-below}
 use Rattle.board.proofs.Laws.Holds.{holds-step}
 use Rattle.board.proofs.Laws.Table.{is_table-board}
-use Rattle.board.specs.declared.Table.{Table}
 use Rattle.board.specs.declared.RefusedAt.{RefusedAt}
+use Rattle.board.specs.declared.Table.{Table}
 
 -- the table that loading a file hands back is that of the board it was accepted with
 pub table_in-accepted : (file : List ℕ) (b : Board) → load file ≡ accepted b → table_in (load file) ≡ table_of b
@@ -52,6 +52,28 @@ table_in-of (accepted b) (Ok t) e = cc
 table_in-of (accepted b) (Err r) e = let z : ◌≡◌ {A = ℕ} 0 1 = cc in absurd (omega arith)
 table_in-of (refused_at number place) (Ok t) e = let z : ◌≡◌ {A = ℕ} 0 1 = cc in absurd (omega arith)
 table_in-of (refused_at number place) (Err r) e = refl
+
+-- what is answered by itself says as much of the board: one was accepted ..
+pub accepted-outcome : (answer : FileAnswer Board) → accepted tt ≡ outcome_of answer → (b : Board) × (answer ≡ accepted b)
+unfolding outcome_of
+accepted-outcome (accepted b) e = (b, refl)
+accepted-outcome (refused_at number place) e = let z : ◌≡◌ {A = ℕ} 0 1 = cc in absurd (omega arith)
+
+-- .. or the file was refused
+pub refused_at-outcome : (answer : FileAnswer Board) (number place : ℕ) → refused_at number place ≡ outcome_of answer → answer ≡ refused_at number place
+unfolding outcome_of
+refused_at-outcome (accepted b) number place e = let z : ◌≡◌ {A = ℕ} 0 1 = cc in absurd (omega arith)
+refused_at-outcome (refused_at n p) number place e = cc
+
+-- a refusal of the right number and place
+pub refuses_loads : (answer : FileAnswer Board) (r : Result Table RefusedAt) (number place : ℕ) → answer ≡ refused_at number place
+    → LoadsAs (refused_at number place) r → LoadsAs answer r
+refuses_loads answer r number place e f = rw e f
+
+-- the table of the board that was accepted
+pub accepts_loads : (answer : FileAnswer Board) (b : Board) (t : Table) → answer ≡ accepted b → t ≡ table_of b → LoadsAs answer (Ok t)
+unfolding table_answer
+accepts_loads answer b t e s = ap accepted s ∙ sym (ap table_answer e)
 
 -- ---- the yes-or-no, as its two sentences stand
 

@@ -1,15 +1,32 @@
 -- Laws of a file's bytes. Assumes nothing.
 pub mod Bytes
-use mathlib.Core.Path.{◌≡◌}
-use Prim.Native.Nat.{ℕ, ◌+◌, ◌≤◌, ◌<◌}
+use mathlib.Core.Path.{◌≡◌, ap, ap₂}
+use Prim.Native.Nat.{ℕ, zero, suc, ◌+◌, ◌-◌, ◌*◌, ◌/◌, ◌%◌, ◌≤◌, ◌<◌}
 use native.Mathlib.Omega.{arith}
-use mathlib.Core.List.{List}
-use lib.ListN.{length, get_or}
+use mathlib.Core.List.{List, ◌∷◌}
+use lib.ListN.{length, get_or, take, drop}
+use lib.Arith.{digits_div, digits_mod}
+use lib.Seq.{drop-cons}
 use mathlib.Core.Bool.{Bool, true, false, cond}
 use lib.Dec.{eqb}
 use borrow.Author.Tests.{le-leb, lt-leb}
 use Rattle.board.specs.Answers.{accepted, refused_at}
-use Rattle.board.specs.File.{body_bytes, known_kind, record_of, next_place, read_record}
+use Rattle.board.specs.File.{body_bytes, low_bytes, known_kind, record_of, next_place, read_record}
+
+-- a byte put below a number is its lowest byte
+pub low_bytes_push : (k n b : ℕ) → b < 256 → low_bytes (suc k) (n * 256 + b) ≡ b ∷ low_bytes k n
+unfolding low_bytes
+low_bytes_push k n b h = ap₂ (λ (x y : ℕ). x ∷ low_bytes k y) (digits_mod n h) (digits_div n h)
+
+-- the lowest byte of a number, and those above it
+pub low_bytes_pop : (k n : ℕ) → zero < k → low_bytes k n ≡ n % 256 ∷ low_bytes (k - 1) (n / 256)
+unfolding low_bytes
+low_bytes_pop zero n h = let no : ⊥ = omega arith in absurd no
+low_bytes_pop (suc k) n h = let e : suc k - 1 ≡ k = omega arith in rw e
+
+-- one more byte in front of a run of bytes
+pub take-drop-cons : (k j : ℕ) (xs : List ℕ) → j < length xs → take (suc k) (drop j xs) ≡ get_or xs j 0 ∷ take k (drop (suc j) xs)
+take-drop-cons k j xs h = ap (take (suc k)) (drop-cons xs j 0 h)
 
 -- ---- the body's length and the record, by the kind
 

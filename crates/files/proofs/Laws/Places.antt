@@ -1,5 +1,5 @@
 -- Laws of the filled places of a rule's record as the code walks over them: the highest, and whether they come first and ascend. Assumes nothing.
-use mathlib.Core.Path.{◌≡◌, refl, sym, ◌∙◌}
+use mathlib.Core.Path.{◌≡◌, refl, sym, ap, ◌∙◌}
 use mathlib.Core.Logic.{◌⊎◌, inl, inr}
 use mathlib.Core.Bool.{Bool, true, ◌&&◌, ◌||◌}
 use mathlib.Core.List.{List, [], ◌∷◌}
@@ -15,6 +15,7 @@ use Rattle.sets.proofs.Laws.Tests.{T_ext, T_of_true, true_of_T, and_swap, and_bo
 use Rattle.board.specs.Sizes.{empty_place}
 use Rattle.board.specs.Load.{filled, filled_first}
 use Rattle.files.specs.Private.Filled.{top_of}
+use Rattle.board.proofs.Laws.Filled.{filled_empty, filled_full}
 
 -- ---- the highest filled place
 
@@ -31,6 +32,16 @@ any-top limit (p ∷ ps) = by (dec_le limit p) (any-top limit ps)
         (T_ext (ltb limit (top_of ps)) (ltb limit (max (suc p) (top_of ps)))
         (λ t. lt→ltb limit (max (suc p) (top_of ps)) (omega (arith, ltb→lt limit (top_of ps) t)))
         (λ t. lt→ltb limit (top_of ps) (omega (arith, ltb→lt limit (max (suc p) (top_of ps)) t))))
+
+module _ (past p : ℕ) (ps : List ℕ) where
+  -- an empty place changes nothing
+  pub top_empty : p ≡ empty_place → max past (top_of (filled (p ∷ ps))) ≡ max past (top_of (filled ps))
+  top_empty e = ap (λ (l : List ℕ). max past (top_of l)) (filled_empty ps e)
+
+  -- a filled one may be the highest
+  pub top-filled : (p ≡ empty_place → ⊥) → max past (top_of (filled (p ∷ ps))) ≡ max (max past (suc p)) (top_of (filled ps))
+  unfolding top_of
+  top-filled f = rw (filled_full ps f) (omega arith)
 
 -- ---- filled places come first, and ascend
 

@@ -1,5 +1,5 @@
 -- Laws of sets of atoms, in terms of their members: who is a member of each set that can be formed, that sets with the same members are equal,
--- what `subset` says of the members, and the equations of `with` and `without`. Nothing here looks at a digit (`Digits` does).
+-- what `subset` says of the members, and the equations of `union`, `with` and `without`. Nothing here looks at a digit (`Digits` does).
 -- Assumes nothing.
 pub mod Bounds
 pub mod Counts
@@ -9,7 +9,7 @@ pub mod Meets
 pub mod Members
 use Prim.Native.Nat.{ℕ, ◌^◌}
 use mathlib.Core.Path.{◌≡◌, refl, sym, ap, ◌∙◌, subst}
-use mathlib.Core.Bool.{Bool, true, false, ◌&&◌, ◌||◌, not, and-true, and-false, or_comm, or-false}
+use mathlib.Core.Bool.{Bool, true, false, ◌&&◌, ◌||◌, not, and-true, and-false, or_comm, or_assoc, or-false}
 use mathlib.Core.List.{List, [], ◌∷◌, ◌++◌}
 use mathlib.Core.Logic.{◌⊎◌}
 use native.Mathlib.Decide.{ℕ_discrete}
@@ -121,6 +121,18 @@ pub subset-with : (a s : ℕ) → T (subset s (with a s))
 subset-with a s = subset-of s (with a s) (λ b. with-left b a s)
 
 -- ---- equations
+
+-- the order of a union does not matter
+pub union_comm : (s t : ℕ) → union s t ≡ union t s
+union_comm s t = set_ext (λ a. member_union a s t ∙ or_comm (member a s) (member a t) ∙ sym (member_union a t s))
+
+-- the grouping of a union does not matter
+pub union_assoc : (s t u : ℕ) → union (union s t) u ≡ union s (union t u)
+union_assoc s t u = set_ext λ a. simp member_union (or_assoc (member a s) (member a t) (member a u))
+
+-- a union with the empty set
+pub union_empty : (s : ℕ) → union s 0 ≡ s
+union_empty s = union_comm s 0 ∙ union-subset 0 s (subset_empty s)
 
 -- sets that agree on one atom and on all others are equal
 set_ext_at : (a s t : ℕ) → member a s ≡ member a t → ((b : ℕ) → (a ≡ b → ⊥) → member b s ≡ member b t) → s ≡ t

@@ -146,7 +146,7 @@ refused-file-length number place l m = simp length-append (omega (arith, decimal
 
 module _ (b : Board) (k : Accepted b) where
   -- what is printed of a question, by what opening tests
-  opened-length : (question : List ℕ) (allowance : ℕ) → allowance ≤ 65535
+  pub opened-length : (question : List ℕ) (allowance : ℕ) → allowance ≤ 65535
       → length (opened_text bench b (open_question (table_of b) question) allowance) ≤ most_text
   unfolding open_question opened_text bench
   opened-length question allowance most =

@@ -6,10 +6,10 @@ use native.Mathlib.Nat.{zero-add, zero-mul, add-mul, mul-pos}
 use mathlib.Core.Path.{◌≡◌, refl, sym, ap, ◌∙◌}
 use mathlib.Core.List.{List, [], ◌∷◌, map, map-append, Memᴰ}
 use lib.ListN.{length, get_or, take}
-use lib.Seq.{get_or-take, length-take-le}
+use lib.Seq.{take-suc, get_or-take, length-take-le}
 use Rattle.sets.specs.Lists.{sum, product, numbers_from, below}
 use Rattle.sets.proofs.Laws.Lists.{map_cong}
-use Rattle.sets.proofs.Laws.Lists.Ends.{product-append, numbers_from-append}
+use Rattle.sets.proofs.Laws.Lists.Ends.{sum_snoc, product-append, numbers_from-append}
 use Rattle.sets.proofs.Laws.Lists.Indices.{at_index, below_at, numbers_from-least}
 
 -- a factor common to all comes out of a sum
@@ -23,6 +23,10 @@ pub sum_at : {x : ℕ} {xs : List ℕ} → Memᴰ x xs → x ≤ sum xs
 unfolding sum
 sum_at (Memᴰ.head e) = omega arith
 sum_at (Memᴰ.tail m) = omega (arith, sum_at m)
+
+-- one term more, by its index
+pub sum-take-suc : (xs : List ℕ) (i : ℕ) → i < length xs → sum (take (suc i) xs) ≡ sum (take i xs) + get_or xs i 0
+sum-take-suc xs i l = rw (take-suc xs i 0) (sum_snoc (take i xs) (get_or xs i 0))
 
 -- one of the first n terms, by its index, is no more than their sum
 pub sum-take_at : (xs : List ℕ) (n i : ℕ) → i < n → n ≤ length xs → get_or xs i 0 ≤ sum (take n xs)
