@@ -32,17 +32,18 @@
      well formed and that no run left is run as it stands, but its lines and ends then say nothing of the board.
 
    HOW LONG A CALL CAN TAKE, AND HOW MUCH STACK
-   In basic steps of the machine (an addition, a comparison, a load, a store), on any input, counted by hand from the sources. The stack is measured, on boards that take most: what the
-   function itself writes, and in brackets with the arguments and the result that the caller holds for it.
+   In basic steps of the machine (an addition, a comparison, a load, a store), on any input, counted by hand from the sources (the tests of a search of 512 entries and
+   256 lines of 32 atoms, a run's and a share's, were seen to execute 1,350,000 instructions). The stack is measured, on boards that take most: what the function itself writes, and in
+   brackets with the arguments and the result that the caller holds for it.
 
                             basic steps, at most some                   KiB of stack
      vilthomm_load          130,000, however long the file                14.3   (17.3)
      vilthomm_open          90,000                                        59.3   (88.3)
-     vilthomm_run           2,800,000, and 1,500,000 for each step        95.5  (150.6)
-     vilthomm_share         2,800,000                                     58.6   (87.6)
+     vilthomm_run           2,500,000, and 1,500,000 for each step        95.5  (150.6)
+     vilthomm_share         2,500,000                                     58.6   (87.6)
      vilthomm_yes_or_no     330,000                                       11.4   (14.3)
      vilthomm_total         90,000                                         7.2   (10.2)
-     vilthomm_listing       load's, open's and run's, 800,000 more       126.6  (126.6)
+     vilthomm_listing       load's, open's and run's, 700,000 more       126.6  (126.6)
 
    The bound of a step is that of an atom with 256 rules. `bench/run` measures, in processor time on a current x86-64, along whole stretches at 480 to 512
    entries on five boards (bench/README.md has its figures; these times are of an older archive and a

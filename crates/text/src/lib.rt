@@ -1,7 +1,7 @@
 // The listing of document 01, "The 001 board, whole", as bytes in a lent buffer: what is printed for a board file and an input. `specs/Lent` says what becomes
 // of the buffer, `Listing` of the crate `search` which bytes are put there.
 //
-// The counts of basic steps below are beside those of loading, opening and the run. A listing of 256 lines of 32 atoms takes some 800,000.
+// The counts of basic steps below are beside those of loading, opening and the run. A listing of 256 lines of 32 atoms takes some 700,000.
 #![tactic(auto)]
 
 mod lines;

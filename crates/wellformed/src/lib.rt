@@ -17,7 +17,7 @@ mod tests;
 
 // Whether the search with these counts, whose entries and lines stand in `entry` and `line`, is well formed at these limits over the table that is known.
 // Counts past what the slices have room for are not well formed. The entry that goes first stands at the highest index. The last two tests rely on those
-// before them. On a full search some 1,010,000 basic steps at 5 atoms a set, of which 590,000 are the pairs of lines, and at most some 2,600,000 at 32. Nothing
+// before them. On a full search some 980,000 basic steps at 5 atoms a set, of which 590,000 are the pairs of lines, and at most some 2,300,000 at 32. Nothing
 // is copied.
 pub fn is_well_formed<'a>(
     known: &Prepared,
