@@ -1,4 +1,6 @@
 // The acts of an item: what each does to the table and to the search, and what it prints.
+ghost use Rattle.std.specs.Prelude.{◌≡◌, ◌-◌, ◌≤◌, length, drop};
+
 use crate::container::Reader;
 use crate::field::Field;
 use crate::print::{print_answer, print_opened, print_ran};
@@ -9,7 +11,6 @@ use opening::open;
 use running::run;
 use search::Search;
 use shares::share;
-use std::alloc::Global;
 use std::io;
 use std::io::Write;
 
@@ -26,7 +27,9 @@ enum Act<'a> {
 }
 
 // The next field, index and value.
-fn next_field(script: &mut Reader<'_>) -> Field {
+fn next_field(script: &mut Reader<'_>) -> Field
+    ensures { script.new.rest.now ≡ drop 11 script.old.rest.now }
+{
     let (number, index) = script.place();
     let value = u64::from_le_bytes(script.next());
     Field {
@@ -36,8 +39,10 @@ fn next_field(script: &mut Reader<'_>) -> Field {
     }
 }
 
-// The next act of a script. A byte that stands for none is an act that does nothing.
-fn next_act<'a>(script: &mut Reader<'a>) -> Act<'a> {
+// The next act of a script, of a byte at least. A byte that stands for none is an act that does nothing.
+fn next_act<'a>(script: &mut Reader<'a>) -> Act<'a>
+    ensures { length script.new.rest.now ≤ length script.old.rest.now - 1 }
+{
     match script.byte() {
         1 => Act::Open(script.atoms()),
         2 => Act::Run(u16::from_le_bytes(script.next())),
@@ -68,7 +73,7 @@ impl<'a> Held<'a> {
     }
 
     // Carries out an act, and prints what it answers.
-    fn act<W: Write>(&mut self, alloc: Global, out: &mut W, act: Act<'a>) -> io::Result<()> {
+    fn act<W: Write>(&mut self, out: &mut W, act: Act<'a>) -> io::Result<()> {
         match act {
             Act::Open(question) => self.open(out, question),
             Act::Run(allowance) => {
@@ -88,30 +93,22 @@ impl<'a> Held<'a> {
                 field.set_in_table(&mut self.table);
                 Ok(())
             }
-            Act::TrueWeight => print_true(alloc, out, &self.table, self.asked),
+            Act::TrueWeight => print_true(out, &self.table, self.asked),
             Act::Nothing => Ok(()),
         }
     }
 }
 
-// All acts of an item, each of a byte at least. Before the first opening the question has no atom.
-pub(crate) fn acts<W: Write>(
-    alloc: Global,
-    out: &mut W,
-    table: Table,
-    script: &[u8],
-) -> io::Result<()> {
+// All acts of an item. Before the first opening the question has no atom.
+pub(crate) fn acts<W: Write>(out: &mut W, table: Table, script: &[u8]) -> io::Result<()> {
     let mut held = Held {
         table,
         search: Search::zero(),
         asked: &[],
     };
     let mut script = Reader::new(script);
-    for _ in 0..script.len() {
-        if script.len() == 0 {
-            break;
-        }
-        held.act(alloc, out, next_act(&mut script))?;
+    while 0 < script.len() {
+        held.act(out, next_act(&mut script))?;
     }
     Ok(())
 }

@@ -1,8 +1,12 @@
-// The items, by what follows the board file in them: what each calls and prints.
+// The items, by what follows the board file in them: what each calls and prints. Each reads two bytes at least, those of its file's length.
+ghost use Rattle.std.specs.Prelude.{◌-◌, ◌≤◌, length};
+
 use crate::act::acts;
 use crate::container::Reader;
 use crate::field::Field;
-use crate::print::{print_answer, print_loaded, print_opened, print_ran, print_read};
+use crate::print::{
+    print_answer, print_loaded, print_opened, print_ran, print_read, print_refused_at,
+};
 use crate::state::print_search;
 use board::Table;
 use bounds::drive;
@@ -10,43 +14,44 @@ use files::accepted::is_table;
 use files::load::load;
 use files::record::read_record;
 use holding::yes_or_no;
-use std::alloc::Global;
 use std::io;
 use std::io::Write;
 
-// The table of a file, which is the one whose every field is zero where the file is refused.
-fn table_of(file: &[u8]) -> Table {
-    load(file).unwrap_or(Table::zero())
+// What is answered of the table of a file, which is the one whose every field is zero where the file is refused.
+fn of_table<R, F: FnOnce(&mut Table) -> R>(file: &[u8], ask: F) -> R
+    requires { F.IsAlwaysCallable ask }
+{
+    match load(file) {
+        Ok(mut table) => ask(&mut table),
+        Err(_) => ask(&mut Table::zero()),
+    }
 }
 
 // Loads the file, and prints `accepted W` or `refused N at P`.
-pub(crate) fn board_item<W: Write>(
-    _alloc: Global,
-    out: &mut W,
-    item: &mut Reader<'_>,
-) -> io::Result<()> {
-    let whole = load(item.part()).map(|t| t.whole_weight());
-    print_loaded(out, "accepted ", whole)
+pub(crate) fn board_item<W: Write>(out: &mut W, item: &mut Reader<'_>) -> io::Result<()>
+    ensures { length item.new.rest.now ≤ length item.old.rest.now - 2 }
+{
+    match load(item.part()) {
+        Ok(table) => writeln!(out, "accepted {}", table.whole_weight()),
+        Err(refused) => print_refused_at(out, refused),
+    }
 }
 
 // Asks an atom in a board state, and prints `yes`, `no` or `refused N`.
-pub(crate) fn state_item<W: Write>(
-    _alloc: Global,
-    out: &mut W,
-    item: &mut Reader<'_>,
-) -> io::Result<()> {
-    let table = table_of(item.part());
+pub(crate) fn state_item<W: Write>(out: &mut W, item: &mut Reader<'_>) -> io::Result<()>
+    ensures { length item.new.rest.now ≤ length item.old.rest.now - 2 }
+{
+    let file = item.part();
     let state = item.atoms();
-    let told = yes_or_no(&table, state, item.byte());
+    let atom = item.byte();
+    let told = of_table(file, |t| yes_or_no(t, state, atom));
     print_answer(out, "", told.map(|yes| if yes { "yes" } else { "no" }))
 }
 
 // Reads the record at a place.
-pub(crate) fn record_item<W: Write>(
-    _alloc: Global,
-    out: &mut W,
-    item: &mut Reader<'_>,
-) -> io::Result<()> {
+pub(crate) fn record_item<W: Write>(out: &mut W, item: &mut Reader<'_>) -> io::Result<()>
+    ensures { length item.new.rest.now ≤ length item.old.rest.now - 2 }
+{
     let file = item.part();
     print_read(
         out,
@@ -55,12 +60,10 @@ pub(crate) fn record_item<W: Write>(
 }
 
 // Tests the table of the file with a field set, and prints `table` or `no table`.
-pub(crate) fn table_item<W: Write>(
-    _alloc: Global,
-    out: &mut W,
-    item: &mut Reader<'_>,
-) -> io::Result<()> {
-    let mut table = table_of(item.part());
+pub(crate) fn table_item<W: Write>(out: &mut W, item: &mut Reader<'_>) -> io::Result<()>
+    ensures { length item.new.rest.now ≤ length item.old.rest.now - 2 }
+{
+    let file = item.part();
     let (number, index) = item.place();
     let value = u64::from(u32::from_le_bytes(item.next()));
     let field = Field {
@@ -68,8 +71,11 @@ pub(crate) fn table_item<W: Write>(
         index,
         value,
     };
-    field.set_in_table(&mut table);
-    if is_table(&table) {
+    let passes = of_table(file, |t| {
+        field.set_in_table(t);
+        is_table(t)
+    });
+    if passes {
         writeln!(out, "table")
     } else {
         writeln!(out, "no table")
@@ -77,36 +83,33 @@ pub(crate) fn table_item<W: Write>(
 }
 
 // Carries out acts on the table of the file.
-pub(crate) fn acts_item<W: Write>(
-    alloc: Global,
-    out: &mut W,
-    item: &mut Reader<'_>,
-) -> io::Result<()> {
+pub(crate) fn acts_item<W: Write>(out: &mut W, item: &mut Reader<'_>) -> io::Result<()>
+    ensures { length item.new.rest.now ≤ length item.old.rest.now - 2 }
+{
     let loaded = load(item.part());
     print_loaded(out, "board", loaded.map(|_| ""))?;
-    acts(alloc, out, loaded.unwrap_or(Table::zero()), item.part())
+    acts(out, loaded.unwrap_or_else(|_| Table::zero()), item.part())
 }
 
-// The next `n` numbers of two bytes each.
-fn allowances(alloc: Global, item: &mut Reader<'_>, n: u8) -> io::Result<Vec<u16>> {
-    let mut numbers = Vec::new(alloc);
-    for _ in 0..n {
-        numbers.push(u16::from_le_bytes(item.next()))?;
+// Puts the next numbers of two bytes each into all of the room.
+fn numbers(item: &mut Reader<'_>, room: &mut [u16])
+    ensures { length item.new.rest.now ≤ length item.old.rest.now }
+{
+    for number in room {
+        *number = u16::from_le_bytes(item.next());
     }
-    Ok(numbers)
 }
 
 // Drives with a question and allowances, and prints what is handed back; of the last run what it answered, or `no run`.
-pub(crate) fn driven_item<W: Write>(
-    alloc: Global,
-    out: &mut W,
-    item: &mut Reader<'_>,
-) -> io::Result<()> {
+pub(crate) fn driven_item<W: Write>(out: &mut W, item: &mut Reader<'_>) -> io::Result<()>
+    ensures { length item.new.rest.now ≤ length item.old.rest.now - 2 }
+{
     let file = item.part();
     let question = item.atoms();
-    let n = item.byte();
-    let allowances = allowances(alloc, item, n)?;
-    let driven = drive(file, question, &allowances);
+    let mut room = [0; 255];
+    let allowances = &mut room[..usize::from(item.byte())];
+    numbers(item, allowances);
+    let driven = drive(file, question, allowances);
     print_loaded(out, "board", driven.loaded.map(|()| ""))?;
     print_opened(out, driven.opened)?;
     match driven.after.last {

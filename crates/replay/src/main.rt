@@ -21,9 +21,10 @@
 // What is printed of each answer is said in `print`, of a search in `state`.
 #![tactic(auto)]
 
+ghost use Rattle.std.specs.Prelude.{◌-◌, ◌≤◌, length};
+
 use container::Reader;
 use item::{acts_item, board_item, driven_item, record_item, state_item, table_item};
-use std::alloc::Global;
 use std::io::{BufWriter, Read, Write};
 use std::rt::Files;
 use std::{fs, io};
@@ -39,37 +40,51 @@ mod truth;
 // The most bytes of a container that are read.
 const CONTAINER_BYTES: usize = 262_144;
 
-// What stands in the file, as far as it can be read; nothing where it will not open, which is said on standard error. There is room for it before it is read,
-// so a lack of memory is no shorter file.
-fn contents(rt: &(impl Files + AllocGlobal + Eprint), path: &str) -> io::Result<Vec<u8>> {
-    let mut bytes = Vec::with_capacity(rt.alloc(), CONTAINER_BYTES)?;
+// Reads until the buffer is full, nothing is left or a read fails, and answers how many bytes stand at its beginning then.
+fn read_full<R: Read>(reader: &mut R, buffer: &mut [u8]) -> usize
+    ensures { result ≤ length buffer.new }
+{
+    let mut done = 0;
+    while done < buffer.len() {
+        match reader.read(&mut buffer[done..]) {
+            Ok(0) | Err(_) => break,
+            Ok(n) => done += n,
+        }
+    }
+    done
+}
+
+// What stands in the file, as far as it can be read and the buffer has room; nothing where it will not open, which is said on standard error.
+fn contents<'a>(rt: &(impl Files + Eprint), path: &str, buffer: &'a mut [u8]) -> &'a [u8]
+    ensures { length result.now ≤ length buffer.old }
+{
     match fs::open(rt, path) {
-        Ok(file) => {
-            let _ = file.take(CONTAINER_BYTES as u64).read_to_end(&mut bytes);
+        Ok(mut file) => {
+            let n = read_full(&mut file, buffer);
+            &buffer[..n]
         }
         Err(error) => {
             let _ = eprintln!(rt; "{path}: {error}");
+            &[]
         }
     }
-    Ok(bytes)
 }
 
 // Carries out all items of a container, each of a byte at least.
-fn replay<W: Write, F: FnMut(Global, &mut W, &mut Reader<'_>) -> io::Result<()>>(
-    rt: &(impl Files + AllocGlobal + Eprint),
+fn replay<W: Write, F: FnMut(&mut W, &mut Reader<'_>) -> io::Result<()>>(
+    rt: &(impl Files + Eprint),
     out: &mut W,
     path: &str,
+    buffer: &mut [u8],
     mut item: F,
 ) -> io::Result<()>
-    requires { F.IsAlwaysCallable item }
+    requires callable { F.IsAlwaysCallable item }
+    requires progress { (f : F) (w : _) (c : _) (r : _) (w' : _) (c' : _) (f' : F) → F.step f w c r w' c' f'
+        → length c'.now.rest.now ≤ length c.now.rest.now - 1 }
 {
-    let bytes = contents(rt, path)?;
-    let mut container = Reader::new(&bytes);
-    for _ in 0..container.len() {
-        if container.len() == 0 {
-            break;
-        }
-        item(rt.alloc(), out, &mut container)?;
+    let mut container = Reader::new(contents(rt, path, buffer));
+    while 0 < container.len() {
+        item(out, &mut container)?;
     }
     Ok(())
 }
@@ -77,13 +92,15 @@ fn replay<W: Write, F: FnMut(Global, &mut W, &mut Reader<'_>) -> io::Result<()>>
 // A write that fails ends it with an error.
 fn main(rt: HostRuntime) -> io::Result<()> {
     let mut out = BufWriter::new(rt.alloc(), rt.stdout())?;
-    replay(&rt, &mut out, "boards.bin", board_item)?;
-    replay(&rt, &mut out, "states.bin", state_item)?;
-    replay(&rt, &mut out, "records.bin", record_item)?;
-    replay(&rt, &mut out, "tables.bin", table_item)?;
+    let mut space = [0; CONTAINER_BYTES];
+    let buffer: &mut [u8] = &mut space;
+    replay(&rt, &mut out, "boards.bin", buffer, board_item)?;
+    replay(&rt, &mut out, "states.bin", buffer, state_item)?;
+    replay(&rt, &mut out, "records.bin", buffer, record_item)?;
+    replay(&rt, &mut out, "tables.bin", buffer, table_item)?;
     for path in ["runs.bin", "handed.bin", "shares.bin", "changed.bin"] {
-        replay(&rt, &mut out, path, acts_item)?;
+        replay(&rt, &mut out, path, buffer, acts_item)?;
     }
-    replay(&rt, &mut out, "driven.bin", driven_item)?;
+    replay(&rt, &mut out, "driven.bin", buffer, driven_item)?;
     out.flush()
 }

@@ -6,7 +6,7 @@ use std::io;
 use std::io::Write;
 
 // Prints `refused N at P`.
-fn print_refused_at<W: Write>(out: &mut W, refused: RefusedAt) -> io::Result<()> {
+pub(crate) fn print_refused_at<W: Write>(out: &mut W, refused: RefusedAt) -> io::Result<()> {
     writeln!(
         out,
         "refused {} at {}",
