@@ -3,7 +3,7 @@ ghost use Rattle.std.specs.Prelude.{◌≡◌, ◌-◌, ◌≤◌, length, drop}
 
 use crate::container::Reader;
 use crate::field::Field;
-use crate::print::{print_answer, print_opened, print_ran};
+use crate::print::{print_opened, print_ran, print_share};
 use crate::state::print_search;
 use crate::truth::print_true;
 use board::Table;
@@ -80,11 +80,9 @@ impl<'a> Held<'a> {
                 print_ran(out, run(&self.table, &mut self.search, allowance))?;
                 print_search(out, &self.search)
             }
-            Act::Share(line) => print_answer(
-                out,
-                "share ",
-                share(&self.table, &self.search, line as usize),
-            ),
+            Act::Share(line) => {
+                print_share(out, share(&self.table, &self.search, line as usize))
+            }
             Act::SetInSearch(field) => {
                 field.set_in_search(&mut self.search);
                 Ok(())

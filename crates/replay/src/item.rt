@@ -5,7 +5,7 @@ use crate::act::acts;
 use crate::container::Reader;
 use crate::field::Field;
 use crate::print::{
-    print_answer, print_loaded, print_opened, print_ran, print_read, print_refused_at,
+    print_loaded, print_opened, print_ran, print_read, print_refused_at, print_told,
 };
 use crate::state::print_search;
 use board::Table;
@@ -44,8 +44,7 @@ pub(crate) fn state_item<W: Write>(out: &mut W, item: &mut Reader<'_>) -> io::Re
     let file = item.part();
     let state = item.atoms();
     let atom = item.byte();
-    let told = of_table(file, |t| yes_or_no(t, state, atom));
-    print_answer(out, "", told.map(|yes| if yes { "yes" } else { "no" }))
+    print_told(out, of_table(file, |t| yes_or_no(t, state, atom)))
 }
 
 // Reads the record at a place.
@@ -75,11 +74,7 @@ pub(crate) fn table_item<W: Write>(out: &mut W, item: &mut Reader<'_>) -> io::Re
         field.set_in_table(t);
         is_table(t)
     });
-    if passes {
-        writeln!(out, "table")
-    } else {
-        writeln!(out, "no table")
-    }
+    out.write_all(if passes { b"table\n" } else { b"no table\n" })
 }
 
 // Carries out acts on the table of the file.
@@ -87,7 +82,7 @@ pub(crate) fn acts_item<W: Write>(out: &mut W, item: &mut Reader<'_>) -> io::Res
     ensures { length item.new.rest.now ≤ length item.old.rest.now - 2 }
 {
     let loaded = load(item.part());
-    print_loaded(out, "board", loaded.map(|_| ""))?;
+    print_loaded(out, &loaded)?;
     acts(out, loaded.unwrap_or_else(|_| Table::zero()), item.part())
 }
 
@@ -110,11 +105,11 @@ pub(crate) fn driven_item<W: Write>(out: &mut W, item: &mut Reader<'_>) -> io::R
     let allowances = &mut room[..usize::from(item.byte())];
     numbers(item, allowances);
     let driven = drive(file, question, allowances);
-    print_loaded(out, "board", driven.loaded.map(|()| ""))?;
+    print_loaded(out, &driven.loaded)?;
     print_opened(out, driven.opened)?;
     match driven.after.last {
         Some(ran) => print_ran(out, ran)?,
-        None => writeln!(out, "no run")?,
+        None => out.write_all(b"no run\n")?,
     }
     print_search(out, &driven.after.search)
 }

@@ -1,7 +1,7 @@
-// The lines of each answer. A write that fails ends the printing with its error.
+// The lines of each answer. A write that fails ends the printing with its error. A line without a number is written in one piece, as each number is: the pieces
+// decide where the output's buffer is emptied, and so where what is said on standard error stands among the lines.
 use board::{Found, Record, Refusal, RefusedAt};
 use search::{Ending, Ran};
-use std::fmt::Display;
 use std::io;
 use std::io::Write;
 
@@ -15,34 +15,38 @@ pub(crate) fn print_refused_at<W: Write>(out: &mut W, refused: RefusedAt) -> io:
     )
 }
 
-// Prints a label and what the file gives, or `refused N at P`.
-pub(crate) fn print_loaded<W: Write, T: Display + Drop>(
+// Prints `board` or `refused N at P`.
+pub(crate) fn print_loaded<W: Write, T: Drop>(
     out: &mut W,
-    label: &str,
-    loaded: Result<T, RefusedAt>,
+    loaded: &Result<T, RefusedAt>,
 ) -> io::Result<()> {
     match loaded {
-        Ok(given) => writeln!(out, "{label}{given}"),
-        Err(refused) => print_refused_at(out, refused),
+        Ok(_) => out.write_all(b"board\n"),
+        Err(refused) => print_refused_at(out, *refused),
     }
 }
 
-// Prints a label, and what is answered or `refused N`.
-pub(crate) fn print_answer<W: Write, T: Display + Drop>(
-    out: &mut W,
-    label: &str,
-    answer: Result<T, Refusal>,
-) -> io::Result<()> {
-    match answer {
-        Ok(given) => writeln!(out, "{label}{given}"),
-        Err(refusal) => writeln!(out, "{label}refused {}", refusal.number()),
+// Prints `yes`, `no` or `refused N`.
+pub(crate) fn print_told<W: Write>(out: &mut W, told: Result<bool, Refusal>) -> io::Result<()> {
+    match told {
+        Ok(true) => out.write_all(b"yes\n"),
+        Ok(false) => out.write_all(b"no\n"),
+        Err(refusal) => writeln!(out, "refused {}", refusal.number()),
+    }
+}
+
+// Prints `share N` or `share refused N`.
+pub(crate) fn print_share<W: Write>(out: &mut W, share: Result<u64, Refusal>) -> io::Result<()> {
+    match share {
+        Ok(thousandths) => writeln!(out, "share {thousandths}"),
+        Err(refusal) => writeln!(out, "share refused {}", refusal.number()),
     }
 }
 
 // Prints `open` or `open refused N`.
 pub(crate) fn print_opened<W: Write>(out: &mut W, opened: Result<(), Refusal>) -> io::Result<()> {
     match opened {
-        Ok(()) => writeln!(out, "open"),
+        Ok(()) => out.write_all(b"open\n"),
         Err(refusal) => writeln!(out, "open refused {}", refusal.number()),
     }
 }
