@@ -63,7 +63,7 @@ FAILING = re.compile(r"(?:\./)?(proofs/[^:\s]+):(\d+):\d+: error"
 OPEN = re.compile(r"note: (?:\./)?(src/[^:\s]+):(\d+):\d+: it is not proved "
                   r"that (?:.*\(`([^`]+)(`\)|$))?")
 FUNCTION = re.compile(r'\s*(?:pub(?:\([^)]*\))? )?(?:extern "C" )?fn (\w+)')
-IMPL = re.compile(r"impl(?:<'\w+>)? (?:(\w+)(?:<\w+>)? for )?(\w+)")
+IMPL = re.compile(r"impl(?:<'\w+>)? (?:(\w+)(?:<[^>]+>)? for )?(\w+|\[)")
 # A fact that hangs on one that failed; a proof that names what the edited code
 # or definition no longer has.
 HANGS = re.compile("was not admitted|was rejected, (?:was|were) not checked")
@@ -282,7 +282,8 @@ def function_at(crate, file, number):
     if not head:
         return None, None
     impl = head[0][0].isspace() and next(filter(None, map(IMPL.match, above)))
-    return impl[2] + (impl[1] or "") if impl else "", head[1]
+    owner = impl and impl[2].replace("[", "Array*") + (impl[1] or "")
+    return owner or "", head[1]
 
 
 def has_answers(crate, file, owner, function):
