@@ -1,5 +1,5 @@
 // The items, by what follows the board file in them: what each calls and prints. Each reads two bytes at least, those of its file's length.
-ghost use Rattle.std.specs.Prelude.{◌-◌, ◌≤◌, length};
+ghost use Rattle.std.specs.Prelude.{◌≡◌, ◌-◌, ◌*◌, ◌≤◌, length, drop};
 
 use crate::act::acts;
 use crate::container::Reader;
@@ -88,7 +88,7 @@ pub(crate) fn acts_item<W: Write>(out: &mut W, item: &mut Reader<'_>) -> io::Res
 
 // Puts the next numbers of two bytes each into all of the room.
 fn numbers(item: &mut Reader<'_>, room: &mut [u16])
-    ensures { length item.new.rest.now ≤ length item.old.rest.now }
+    ensures { item.new.rest.now ≡ drop (2 * length room.old) item.old.rest.now }
 {
     for number in room {
         *number = u16::from_le_bytes(item.next());

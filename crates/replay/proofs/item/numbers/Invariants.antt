@@ -1,6 +1,6 @@
--- `numbers` leaves no more than there was. Assumes nothing.
-use Rattle.std.proofs.Common.{length, ◌≤◌}
+-- `numbers` takes two bytes for each number. Assumes nothing.
+use Rattle.std.proofs.Common.{◌≡◌, ◌*◌, drop}
 use Rattle.replay.proofs.item.numbers.Given as goal
 
 abbrev pub invariant-loop-number : goal.invariant-loop-number
-invariant-loop-number l = length l.item.rest.now ≤ length l.initial.item.rest.now
+invariant-loop-number l = l.item.rest.now ≡ drop (2 * l.number-index) l.initial.item.rest.now
