@@ -67,7 +67,7 @@ impl<'a> Held<'a> {
     fn open<W: Write>(&mut self, out: &mut W, question: &'a [u8]) -> io::Result<()> {
         let opened = open(&self.table, question);
         self.asked = question;
-        self.search = opened.unwrap_or(Search::zero());
+        self.search = opened.unwrap_or_default();
         print_opened(out, opened.map(|_| ()))?;
         print_search(out, &self.search)
     }

@@ -83,7 +83,7 @@ pub(crate) fn acts_item<W: Write>(out: &mut W, item: &mut Reader<'_>) -> io::Res
 {
     let loaded = load(item.part());
     print_loaded(out, &loaded)?;
-    acts(out, loaded.unwrap_or_else(|_| Table::zero()), item.part())
+    acts(out, loaded.unwrap_or_default(), item.part())
 }
 
 // Puts the next numbers of two bytes each into all of the room.
