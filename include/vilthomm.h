@@ -32,9 +32,9 @@
      well formed and that no run left is run as it stands, but its lines and ends then say nothing of the board.
 
    HOW LONG A CALL CAN TAKE, AND HOW MUCH STACK
-   In basic steps of the machine (an addition, a comparison, a load, a store), on any input, counted by hand from the sources (the tests of a search of 512 entries and
-   256 lines of 32 atoms, a run's and a share's, were seen to execute 1,350,000 instructions). The stack is measured, on boards that take most: what the function itself writes, and in
-   brackets with the arguments and the result that the caller holds for it.
+   In basic steps of the machine (an addition, a comparison, a load, a store), on any input, counted by hand: from the sources, and what is done for each atom and each two lines
+   of a search from the machine code. (Executed, as instructions: a share over 512 entries and 256 lines of 32 atoms 1,440,000; the text of a listing of 256 lines of 32 atoms
+   452,000.) The stack is measured, on boards that take most: what the function itself writes, and in brackets with the arguments and the result that the caller holds for it.
 
                             basic steps, at most some                   KiB of stack
      vilthomm_load          130,000, however long the file                14.3   (17.3)
@@ -47,14 +47,14 @@
 
    The bound of a step is that of an atom with 256 rules. `bench/run` measures, in processor time on a current x86-64, along whole stretches at 480 to 512
    entries on five boards (bench/README.md has its figures; these times are of an older archive and a
-   quicker machine, the ratios of this archive):
+   quicker machine, the ratios of this archive and the one before it, on two machines):
    - A step takes 30 to 130 nanoseconds on average. A run tests its table and its search each time: beside its steps it takes up to 85 to 150 microseconds,
      by the board, as long as 1,200 to 4,000 steps there, and less over a small search. So a run of 1,000 steps takes up to 120 to 270 microseconds, most of
      it tests. Few long runs are cheaper than many short ones.
    - A share makes the same tests, at each call: up to 85 to 145 microseconds. Of a whole list, line[VILTHOMM_LINE_WEIGHT][i] * 1000 / low of a run's answer
      is the same.
-   - In long runs the library takes 3.0 to 4.4 times the steps a second of plain C with its entries sorted in one array, 0.8 to 1.6 times those of the same
-     C with an array that has their order, and 0.2 to 1.0 times those of the fastest C that was found. That C tests nothing.
+   - In long runs the library takes 1.9 to 4.4 times the steps a second of plain C with its entries sorted in one array, 0.8 to 1.6 times those of the same
+     C with an array that has their order, and 0.2 to 1.2 times those of the fastest C that was found. That C tests nothing.
    - On the dearest board that was found (217 rules of one atom, pending again and again beside 500 entries), runs of 1,000 steps take up to 20 microseconds
      a step, so 20 milliseconds. That no board is dearer is not claimed.
 
